@@ -1,0 +1,2 @@
+-- Theorems about document 01's definitions.
+pub mod Numbers

@@ -1,0 +1,57 @@
+-- The paper's numbers of the refusals, and what each answer of the code says. Document 01, "Refusal numbers, in the order they are tested".
+-- Each reading is one-to-one: proofs/Readings.antt. Assumes nothing.
+use Prim.Native.Nat.{ℕ, zero, suc}
+use lib.IntN.{ℤ}
+use Rattle.evc.specs.declared.Component.{Component}
+use Rattle.evc.specs.declared.Refusal.{Refusal}
+use Rattle.evc.specs.declared.Refusal.the-variants.{Size, Qp, Shift, Depth, Area, Overlap, Sample}
+use Rattle.evc.specs.declared.Answer.{Answer}
+use Rattle.evc.specs.declared.Answer.the-variants as answer
+use Rattle.evc.specs.declared.SubAnswer.{SubAnswer}
+use Rattle.evc.specs.declared.SubAnswer.the-variants as sub
+use Rattle.evc.specs.declared.Scale.{Scale}
+use Rattle.evc.specs.declared.Scale.the-variants as scaled
+use Rattle.evc.specs.declared.Distortion.{Distortion}
+use Rattle.evc.specs.declared.Distortion.the-variants as distortion
+use Rattle.evc.specs.declared.SquaredDistortion.{SquaredDistortion}
+use Rattle.evc.specs.declared.SquaredDistortion.the-variants as squared
+
+abbrev pub number : Refusal → ℕ
+number Size = 1
+number Qp = 2
+number Shift = 3
+number Depth = 4
+number Area = 5
+number Overlap = 6
+number Sample = 7
+
+-- a call that leaves its result in a buffer answers a number: 0 where it is accepted
+abbrev pub answerNumber : Answer → ℕ
+answerNumber answer.Done = 0
+answerNumber (answer.Refused r) = number r
+
+-- a call with a value answers the value, or a refusal's number and no value
+pub data Reply (A : Type 0) : Type 0 where
+  value : A → Reply A
+  refused : ℕ → Reply A
+
+abbrev pub scaleReading : Scale → Reply ℤ
+scaleReading (scaled.Value v) = value v
+scaleReading (scaled.Refused r) = refused (number r)
+
+abbrev pub distortionReading : Distortion → Reply ℕ
+distortionReading (distortion.Value v) = value v
+distortionReading (distortion.Refused r) = refused (number r)
+
+abbrev pub squaredReading : SquaredDistortion → Reply ℤ
+squaredReading (squared.Value v) = value v
+squaredReading (squared.Refused r) = refused (number r)
+
+-- a sub-block call is accepted, or refused with a component and a number
+pub data SubReply : Type 0 where
+  accepted : SubReply
+  refusedAt : Component → ℕ → SubReply
+
+abbrev pub subReading : SubAnswer → SubReply
+subReading sub.Done = accepted
+subReading (sub.Refused c r) = refusedAt c (number r)

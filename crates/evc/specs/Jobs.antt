@@ -1,0 +1,63 @@
+-- The block job: dequantize an area of the buffer, stage one, stage two, back into the same area. Document 01, "Numbers of the domain"
+-- and "The two stages". Assumes nothing.
+use Prim.Native.Nat.{ℕ, _+_, _*_, _^_}
+use mathlib.Core.List.{List, [], _∷_, map}
+use lib.Dec.{ltb}
+use lib.IntN.{ℤ, pos}
+use Rattle.order.specs.Positions.{rows, reach}
+use Rattle.order.specs.Jobs.{Kind, after}
+use Rattle.evc.specs.declared.Job.{Job}
+use Rattle.evc.specs.declared.Refusal.the-variants.{Size, Qp, Shift, Area}
+use Rattle.evc.specs.Tests.{Test, _when_, first, outside}
+use Rattle.evc.specs.Table.{tm}
+use Rattle.evc.specs.Dequantizer.{scale, dequantized}
+use Rattle.evc.specs.Stages.{stageOne, stageTwo}
+
+abbrev pub width : Job → ℕ
+width j = 2 ^ j .logw
+
+abbrev pub height : Job → ℕ
+height j = 2 ^ j .logh
+
+-- the row after a row starts a pitch later: here straight behind it
+abbrev pub pitch : Job → ℕ
+pitch j = width j
+
+-- the positions of the job's samples, row after row, and one past the last of them
+abbrev pub area : Job → List ℕ
+area j = rows (j .start) (width j) (pitch j) (height j)
+
+abbrev pub areaEnd : Job → ℕ
+areaEnd j = reach (j .start) (width j) (pitch j) (height j)
+
+-- the tests on a buffer of n samples, of a job whose logs were handed in as logw and logh and must lie in lo..hi
+abbrev pub testsAs : ℕ → ℕ → ℕ → ℕ → ℕ → Job → List Test
+testsAs lo hi logw logh n j =
+    (Size when outside lo hi logw)
+    ∷ (Size when outside lo hi logh)
+    ∷ (Qp when ltb 63 (j .qp))
+    ∷ (Shift when ltb 31 (j .dqshift))
+    ∷ (Shift when ltb 31 (j .itshift))
+    ∷ (Area when ltb n (areaEnd j))
+    ∷ []
+
+abbrev pub jobTests : ℕ → Job → List Test
+jobTests n j = testsAs 1 6 (j .logw) (j .logh) n j
+
+unfoldable pub jobNumber : ℕ → Job → ℕ
+jobNumber n j = first (jobTests n j)
+
+-- what the job makes of its samples: stage one has the size height and width lines, stage two the size width and height lines
+unfoldable pub block : Job → List ℤ → List ℤ
+block j l =
+    stageTwo (tm (width j)) (width j) (height j) (j .itshift)
+    (stageOne (tm (height j)) (height j) (width j)
+    (map (dequantized (scale (j .qp)) (j .offset) (j .dqshift)) l))
+
+-- block jobs as a kind of job on one buffer, to which the theory of order applies
+abbrev pub blockJobs : Kind ℤ Job
+blockJobs = record { blank = pos 0; number = jobNumber; area = area; block = block }
+
+-- the buffer at the end: an accepted job's area holds its block, all else is as it was
+unfoldable pub jobExit : Job → List ℤ → List ℤ
+jobExit j b = after blockJobs j b

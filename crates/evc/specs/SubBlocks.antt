@@ -1,0 +1,98 @@
+-- The sub-block call: up to three jobs on one buffer, for those of Y, U and V that are flagged. Document 01, "Refusal numbers" and
+-- "Numbers of the domain". Assumes nothing.
+use Prim.Native.Nat.{ℕ, zero, suc, _-_}
+use mathlib.Core.Bool.{Bool, true, false, cond, _&&_}
+use mathlib.Core.List.{List, [], _∷_, _++_, map}
+use lib.ListN.{length}
+use lib.IntN.{ℤ}
+use Rattle.order.specs.Positions.{shared}
+use Rattle.order.specs.Jobs.{jobs}
+use Rattle.evc.specs.declared.Job.{Job}
+use Rattle.evc.specs.declared.Part.{Part}
+use Rattle.evc.specs.declared.SubBlock.{SubBlock}
+use Rattle.evc.specs.declared.Component.{Component}
+use Rattle.evc.specs.declared.Component.the-variants.{Y, U, «V»}
+use Rattle.evc.specs.declared.Refusal.the-variants.{Overlap}
+use Rattle.evc.specs.Answers.{number, SubReply, accepted, refusedAt}
+use Rattle.evc.specs.Tests.{Test, _when_}
+use Rattle.evc.specs.Jobs.{area, testsAs, blockJobs}
+
+-- the job of a component: luma's logs, and one less in both directions for chroma (0 - 1 is 0 here: such a call is SIZE below)
+abbrev pub luma : SubBlock → Part → Job
+luma s c =
+    record {
+      start = c .start;
+      logw = s .logw;
+      logh = s .logh;
+      qp = c .qp;
+      offset = s .offset;
+      dqshift = s .dqshift;
+      itshift = s .itshift;
+    }
+
+abbrev pub chroma : SubBlock → Part → Job
+chroma s c =
+    record {
+      start = c .start;
+      logw = s .logw - 1;
+      logh = s .logh - 1;
+      qp = c .qp;
+      offset = s .offset;
+      dqshift = s .dqshift;
+      itshift = s .itshift;
+    }
+
+-- a component's tests on a buffer of n samples. Logs are tested as handed in, so that chroma's limits are 2 and 7
+abbrev pub lumaTests : ℕ → SubBlock → Part → List Test
+lumaTests n s c = testsAs 1 6 (s .logw) (s .logh) n (luma s c)
+
+abbrev pub chromaTests : ℕ → SubBlock → Part → List Test
+chromaTests n s c = testsAs 2 7 (s .logw) (s .logh) n (chroma s c)
+
+-- two components share a sample; the positions that they share are `shared (area j) (area k)`, in ascending order
+abbrev pub isSome : List ℕ → Bool
+isSome [] = false
+isSome (p ∷ ps) = true
+
+abbrev pub overlap : Job → Job → Test
+overlap j k = Overlap when isSome (shared (area j) (area k))
+
+-- ---- the call's tests, each with the component that it names
+pub record Named : Type 0 where
+  pub who : Component
+  pub test : Test
+
+abbrev pub named : Component → List Test → List Named
+named c ts = map (λ t. record { who = c; test = t }) ts
+
+abbrev pub given : {A : Type 0} → Bool → List A → List A
+given true l = l
+given false l = []
+
+-- each flagged component by itself, then the pairs of flagged ones, of which the later is named
+abbrev pub subTests : ℕ → SubBlock → List Named
+subTests n s =
+    given (s .y .flag) (named Y (lumaTests n s (s .y)))
+    ++ (given (s .u .flag) (named U (chromaTests n s (s .u)))
+    ++ (given (s .v .flag) (named «V» (chromaTests n s (s .v)))
+    ++ (given (s .y .flag && s .u .flag) (named U (overlap (luma s (s .y)) (chroma s (s .u)) ∷ []))
+    ++ (given (s .y .flag && s .v .flag) (named «V» (overlap (luma s (s .y)) (chroma s (s .v)) ∷ []))
+    ++ given (s .u .flag && s .v .flag) (named «V» (overlap (chroma s (s .u)) (chroma s (s .v)) ∷ []))))))
+
+abbrev pub firstNamed : List Named → SubReply
+firstNamed [] = accepted
+firstNamed (t ∷ ts) = cond (t .test .broken) (refusedAt (t .who) (number (t .test .refusal))) (firstNamed ts)
+
+unfoldable pub subReply : ℕ → SubBlock → SubReply
+subReply n s = firstNamed (subTests n s)
+
+-- ---- the jobs of the flagged components, and the buffer at the end: an accepted call does them, a refused one nothing
+abbrev pub flagged : SubBlock → List Job
+flagged s = given (s .y .flag) (luma s (s .y) ∷ []) ++ (given (s .u .flag) (chroma s (s .u) ∷ []) ++ given (s .v .flag) (chroma s (s .v) ∷ []))
+
+abbrev pub whenAccepted : {A : Type 0} → SubReply → A → A → A
+whenAccepted accepted x y = x
+whenAccepted (refusedAt c n) x y = y
+
+unfoldable pub subExit : SubBlock → List ℤ → List ℤ
+subExit s b = whenAccepted (subReply (length b) s) (jobs blockJobs (flagged s) b) b

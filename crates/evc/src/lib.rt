@@ -1,0 +1,79 @@
+// What code and definitions share: the job, the sub-block, the components, the refusals and the answers.
+// Their readings, the paper's numbers and values, stand in specs/.
+
+// One block job: where its samples start in the buffer, the logarithms of its sides, and its numbers.
+pub struct Job {
+    pub start: usize,
+    pub logw: usize,
+    pub logh: usize,
+    pub qp: u8,
+    pub offset: i32,
+    pub dqshift: u8,
+    pub itshift: u8,
+}
+
+// What a component of a sub-block has of its own.
+pub struct Part {
+    pub flag: bool,
+    pub start: usize,
+    pub qp: u8,
+}
+
+// A sub-block call: luma's logarithms, the numbers that all components share, and the components.
+pub struct SubBlock {
+    pub logw: usize,
+    pub logh: usize,
+    pub offset: i32,
+    pub dqshift: u8,
+    pub itshift: u8,
+    pub y: Part,
+    pub u: Part,
+    pub v: Part,
+}
+
+pub enum Component {
+    Y,
+    U,
+    V,
+}
+
+// Why a call is refused, in the order of the paper's numbers.
+pub enum Refusal {
+    Size,
+    Qp,
+    Shift,
+    Depth,
+    Area,
+    Overlap,
+    Sample,
+}
+
+// The answer of a call that leaves its result in a buffer.
+pub enum Answer {
+    Done,
+    Refused(Refusal),
+}
+
+// The answer of a sub-block call: a refusal names its component.
+pub enum SubAnswer {
+    Done,
+    Refused(Component, Refusal),
+}
+
+// The scale of a qp.
+pub enum Scale {
+    Value(i32),
+    Refused(Refusal),
+}
+
+// A sum of absolute differences, or of absolute coefficients.
+pub enum Distortion {
+    Value(u32),
+    Refused(Refusal),
+}
+
+// A sum of squared differences.
+pub enum SquaredDistortion {
+    Value(i64),
+    Refused(Refusal),
+}
