@@ -35,6 +35,11 @@ pub data Reply (A : Type 0) : Type 0 where
   value : A → Reply A
   refused : ℕ → Reply A
 
+-- the number of such an answer: 0 with a value
+abbrev pub replyNumber : {A : Type 0} → Reply A → ℕ
+replyNumber (value v) = 0
+replyNumber (refused n) = n
+
 abbrev pub scaleReading : Scale → Reply ℤ
 scaleReading (scaled.Value v) = value v
 scaleReading (scaled.Refused r) = refused (number r)

@@ -1,8 +1,10 @@
 -- A call's tests are a list, in the order in which they are made. Document 01, "Refusal numbers, in the order they are tested".
 -- That the first broken test has the lowest number that applies is a theorem for each call: proofs/Lowest.antt. Assumes nothing.
-use Prim.Native.Nat.{ℕ, zero, suc, _+_, _^_}
-use mathlib.Core.Bool.{Bool, cond, _||_}
-use mathlib.Core.List.{List, [], _∷_}
+use Prim.Native.Nat.{ℕ, zero, suc, _+_, _^_, _≤_}
+use mathlib.Core.Path.{_≡_}
+use mathlib.Core.Logic.{_⊎_}
+use mathlib.Core.Bool.{Bool, true, cond, _||_}
+use mathlib.Core.List.{List, [], _∷_, List·Memᴰ}
 use lib.Dec.{ltb}
 use Rattle.evc.specs.declared.Refusal.{Refusal}
 use Rattle.evc.specs.declared.Refusal.the-variants.{Size}
@@ -21,6 +23,14 @@ r when t = record { refusal = r; broken = t }
 abbrev pub first : List Test → ℕ
 first [] = 0
 first (t ∷ ts) = cond (t .broken) (number (t .refusal)) (first ts)
+
+-- the refusal number n applies: some test with that number is broken
+abbrev pub Applies : List Test → ℕ → Type 0
+Applies ts n = (t : Test) × List·Memᴰ t ts × (t .broken ≡ true) × (number (t .refusal) ≡ n)
+
+-- n is the lowest number that applies, and 0 where none does
+abbrev pub Lowest : List Test → ℕ → Type 0
+Lowest ts n = (Applies ts n × ((m : ℕ) → Applies ts m → n ≤ m)) ⊎ ((n ≡ 0) × ((m : ℕ) → Applies ts m → ⊥))
 
 -- the answer of a call with a value: the value where no test is broken
 abbrev pub reply : {A : Type 0} → ℕ → A → Reply A

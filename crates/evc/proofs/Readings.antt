@@ -1,0 +1,106 @@
+-- Each reading of an answer is one-to-one: no two answers of the code are read alike. Each has a left inverse, which says which answer
+-- was read. Assumes nothing.
+use Prim.Native.Nat.{ℕ, zero, suc}
+use mathlib.Core.Path.{_≡_, refl, sym, ap, _∙_}
+use lib.ListN.{getD}
+use lib.IntN.{ℤ}
+use mathlib.Core.List.{List, [], _∷_}
+use Rattle.evc.specs.declared.Refusal.{Refusal}
+use Rattle.evc.specs.declared.Refusal.the-variants.{Size, Qp, Shift, Depth, Area, Overlap, Sample}
+use Rattle.evc.specs.declared.Answer.{Answer}
+use Rattle.evc.specs.declared.Answer.the-variants as answer
+use Rattle.evc.specs.declared.SubAnswer.{SubAnswer}
+use Rattle.evc.specs.declared.SubAnswer.the-variants as sub
+use Rattle.evc.specs.declared.Scale.{Scale}
+use Rattle.evc.specs.declared.Scale.the-variants as scaled
+use Rattle.evc.specs.declared.Distortion.{Distortion}
+use Rattle.evc.specs.declared.Distortion.the-variants as distortion
+use Rattle.evc.specs.declared.SquaredDistortion.{SquaredDistortion}
+use Rattle.evc.specs.declared.SquaredDistortion.the-variants as squared
+use Rattle.evc.specs.Answers.{number, answerNumber, Reply, value, refused, scaleReading, distortionReading, squaredReading, SubReply, accepted, refusedAt, subReading}
+
+-- what has a left inverse is one-to-one
+one-to-one : {A B : Type 0} (f : A → B) (g : B → A) → ((a : A) → g (f a) ≡ a) → (x y : A) → f x ≡ f y → x ≡ y
+one-to-one f g h x y e = sym (h x) ∙ ap g e ∙ h y
+
+refusal : ℕ → Refusal
+refusal n = getD (Size ∷ Size ∷ Qp ∷ Shift ∷ Depth ∷ Area ∷ Overlap ∷ Sample ∷ []) n Size
+
+refusal-number : (r : Refusal) → refusal (number r) ≡ r
+unfolding refusal
+refusal-number Size = refl
+refusal-number Qp = refl
+refusal-number Shift = refl
+refusal-number Depth = refl
+refusal-number Area = refl
+refusal-number Overlap = refl
+refusal-number Sample = refl
+
+pub number-one : (r s : Refusal) → number r ≡ number s → r ≡ s
+number-one = one-to-one number refusal refusal-number
+
+answer-of : ℕ → Answer
+answer-of zero = answer.Done
+answer-of (suc n) = answer.Refused (refusal (suc n))
+
+answer-read : (a : Answer) → answer-of (answerNumber a) ≡ a
+unfolding answer-of refusal
+answer-read answer.Done = refl
+answer-read (answer.Refused Size) = refl
+answer-read (answer.Refused Qp) = refl
+answer-read (answer.Refused Shift) = refl
+answer-read (answer.Refused Depth) = refl
+answer-read (answer.Refused Area) = refl
+answer-read (answer.Refused Overlap) = refl
+answer-read (answer.Refused Sample) = refl
+
+pub answer-one : (a b : Answer) → answerNumber a ≡ answerNumber b → a ≡ b
+answer-one = one-to-one answerNumber answer-of answer-read
+
+scale-of : Reply ℤ → Scale
+scale-of (value v) = scaled.Value v
+scale-of (refused n) = scaled.Refused (refusal n)
+
+scale-read : (s : Scale) → scale-of (scaleReading s) ≡ s
+unfolding scale-of
+scale-read (scaled.Value v) = refl
+scale-read (scaled.Refused r) = ap scaled.Refused (refusal-number r)
+
+pub scale-one : (a b : Scale) → scaleReading a ≡ scaleReading b → a ≡ b
+scale-one = one-to-one scaleReading scale-of scale-read
+
+distortion-of : Reply ℕ → Distortion
+distortion-of (value v) = distortion.Value v
+distortion-of (refused n) = distortion.Refused (refusal n)
+
+distortion-read : (d : Distortion) → distortion-of (distortionReading d) ≡ d
+unfolding distortion-of
+distortion-read (distortion.Value v) = refl
+distortion-read (distortion.Refused r) = ap distortion.Refused (refusal-number r)
+
+pub distortion-one : (a b : Distortion) → distortionReading a ≡ distortionReading b → a ≡ b
+distortion-one = one-to-one distortionReading distortion-of distortion-read
+
+squared-of : Reply ℤ → SquaredDistortion
+squared-of (value v) = squared.Value v
+squared-of (refused n) = squared.Refused (refusal n)
+
+squared-read : (d : SquaredDistortion) → squared-of (squaredReading d) ≡ d
+unfolding squared-of
+squared-read (squared.Value v) = refl
+squared-read (squared.Refused r) = ap squared.Refused (refusal-number r)
+
+pub squared-one : (a b : SquaredDistortion) → squaredReading a ≡ squaredReading b → a ≡ b
+squared-one = one-to-one squaredReading squared-of squared-read
+
+sub-of : SubReply → SubAnswer
+sub-of accepted = sub.Done
+sub-of (refusedAt c n) = sub.Refused c (refusal n)
+
+sub-read : (a : SubAnswer) → sub-of (subReading a) ≡ a
+unfolding sub-of
+sub-read sub.Done = refl
+sub-read (sub.Refused c r) = ap (sub.Refused c) (refusal-number r)
+
+pub sub-one : (a b : SubAnswer) → subReading a ≡ subReading b → a ≡ b
+sub-one = one-to-one subReading sub-of sub-read

@@ -1,0 +1,51 @@
+-- Laws of a list of tests: what an accepted call knows, test by test (`unbroken`), and back (`first-none`); laws of a call's reply.
+-- Assumes nothing.
+use Prim.Native.Nat.{ℕ, zero, suc, _≤_}
+use native.Mathlib.Omega.{arith}
+use mathlib.Core.Path.{_≡_, refl, sym, ap, _∙_}
+use mathlib.Core.Bool.{Bool, true, false, cond}
+use mathlib.Core.List.{List, [], _∷_, _++_}
+use Rattle.evc.specs.declared.Refusal.{Refusal}
+use Rattle.evc.specs.declared.Refusal.the-variants.{Size, Qp, Shift, Depth, Area, Overlap, Sample}
+use Rattle.evc.specs.Answers.{number, Reply, value, refused, replyNumber}
+use Rattle.evc.specs.Tests.{Test, first, reply}
+
+-- no test of the list is broken, test by test
+abbrev pub Unbroken : List Test → Type 0
+Unbroken [] = Unit {0}
+Unbroken (t ∷ ts) = (t .broken ≡ false) × Unbroken ts
+
+-- a refusal's number is never 0, by which an accepted call is told
+pub number-some : (r : Refusal) → 1 ≤ number r
+number-some Size = omega arith
+number-some Qp = omega arith
+number-some Shift = omega arith
+number-some Depth = omega arith
+number-some Area = omega arith
+number-some Overlap = omega arith
+number-some Sample = omega arith
+
+pub unbroken : (ts : List Test) → first ts ≡ 0 → Unbroken ts
+unbroken [] e = tt
+unbroken (t ∷ ts) e = go (t .broken) refl (unbroken ts) e
+  where
+    go : (b : Bool) → t .broken ≡ b → (first ts ≡ 0 → Unbroken ts) → cond b (number (t .refusal)) (first ts) ≡ 0 → Unbroken (t ∷ ts)
+    go true p ih q = absurd (omega (arith, number-some (t .refusal)))
+    go false p ih q = (p, ih q)
+
+pub first-none : (ts : List Test) → Unbroken ts → first ts ≡ 0
+first-none [] u = refl
+first-none (t ∷ ts) u = rw (u .0) (first-none ts (u .1))
+
+-- ---- the reply of a call with a value
+pub reply-number : {A : Type 0} (n : ℕ) (v : A) → replyNumber (reply n v) ≡ n
+reply-number zero v = refl
+reply-number (suc n) v = refl
+
+-- as a call's code ends: with a refusal, or with the value
+pub reply-refused : {A : Type 0} (r : Refusal) (n : ℕ) (v : A) → number r ≡ n → refused (number r) ≡ reply n v
+reply-refused r zero v e = absurd (omega (arith, number-some r))
+reply-refused r (suc n) v e = ap refused e
+
+pub reply-value : {A : Type 0} (n : ℕ) (v : A) → n ≡ 0 → value v ≡ reply n v
+reply-value n v e = rw e
