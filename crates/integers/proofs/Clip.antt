@@ -5,9 +5,10 @@ use mathlib.Core.Bool.{Bool, true, false, cond}
 use native.Mathlib.Omega.{arith}
 use lib.Dec.{T}
 use lib.IntN.{ℤ, pos, negsuc, negℤ}
-use lib.Signed.{_≤ℤ_, _<ℤ_, ltZ, ltZ-yes, ≤ℤ-refl, clashℤ}
+use lib.Signed.{_≤ℤ_, _<ℤ_, ltZ, ltZ-yes, leZ-yes, ≤ℤ-refl, clashℤ}
 use mir.Syntax.{Width, w16, w32}
 use mir.Val.{SFits}
+use mir.Facts.{sfits-lit}
 use Rattle.integers.specs.Z.{minZ, maxZ, clip, clip16, clip32}
 use Rattle.integers.proofs.Bits.{lt-held, lt-failed}
 use Rattle.integers.proofs.Order.{nat-≤, sfits-parts, between-sfits, ≤ℤ-antisym, <ℤ-≤ℤ}
@@ -78,6 +79,13 @@ module _ (lo hi x : ℤ) where
 -- what is clipped fits where both ends do
 pub clip-fits : (w : Width) (lo hi x : ℤ) → SFits w lo → SFits w hi → lo ≤ℤ hi → SFits w (clip lo hi x)
 clip-fits w lo hi x a b h = between-sfits w lo hi (clip lo hi x) a b (clip-above lo hi x h) (clip-below lo hi x h)
+
+-- to a type's range: it fits the type, and nothing changes where the number does
+pub clip16-fits : (z : ℤ) → SFits w16 (clip16 z)
+clip16-fits z = clip-fits w16 (negsuc 32767) (pos 32767) z (sfits-lit tt) (sfits-lit tt) (leZ-yes tt)
+
+pub clip32-fits : (z : ℤ) → SFits w32 (clip32 z)
+clip32-fits z = clip-fits w32 (negsuc 2147483647) (pos 2147483647) z (sfits-lit tt) (sfits-lit tt) (leZ-yes tt)
 
 pub clip16-id : (z : ℤ) → SFits w16 z → clip16 z ≡ z
 clip16-id z h = let p = sfits-parts h in clip-id (negsuc 32767) (pos 32767) z (nat-≤ (omega arith)) (nat-≤ (omega arith))
