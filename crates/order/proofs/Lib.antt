@@ -1,0 +1,4 @@
+-- Laws and theorems of jobs on one buffer. Read AnyOrder and ByTheatre; the others lead there, and serve the crates above.
+pub mod Tests
+pub mod Positions
+pub mod Rows
