@@ -40,6 +40,10 @@ ended-order {w} set {b} {js} {ks} {c} s t =
       rest = λ p h. t .rest p (λ j m. ∥∥₁-elim (Perm·mem-iff s .1 ∣ m ∣₁) (Bool-set _ _) (h j));
     }
 
+-- each job answers as it does alone on the first contents, also where jobs share samples
+pub answers-alone : {A J : Type 0} (w : Kind A J) (b : List A) (js : List J) → answers w js b ≡ map (w .number (length b)) js
+answers-alone w b js = answers-jobs w (length b) js b refl
+
 module _ {A J : Type 0} {w : Kind A J} (l : Lawful w) where
   -- separate jobs end as `Ended` says
   pub separate-ended : (b : List A) (js : List J) → Separate w (length b) js → Ended w b js (jobs w js b)
@@ -50,12 +54,9 @@ module _ {A J : Type 0} {w : Kind A J} (l : Lawful w) where
         rest = jobs-outside w (length b) js b refl;
       }
 
-  -- each job, in any list, answers as it does alone on the first contents
-  pub answers-alone : (b : List A) (js : List J) → answers w js b ≡ map (w .number (length b)) js
-  answers-alone b js = answers-jobs w (length b) js b refl
-
+  -- any rearrangement of separate jobs
   pub any-order : (b : List A) (js ks : List J) → Perm js ks → Separate w (length b) js → AnyOrder w b js ks
-  any-order b js ks p s = record { buffer = ended-one end (separate-ended b js s); ended = end; answer = answers-alone b ks }
+  any-order b js ks p s = record { buffer = ended-one end (separate-ended b js s); ended = end; answer = answers-alone w b ks }
     where
       end : Ended w b js (jobs w ks b)
       end = ended-order (l .aset) p (separate-ended b ks (Perm·pairwise (apart-prop w (length b)) (apart-sym w (length b)) p s))

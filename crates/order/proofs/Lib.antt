@@ -5,3 +5,4 @@ pub mod Rows
 pub mod OneJob
 pub mod Steps
 pub mod AnyOrder
+pub mod ByTheatre

@@ -10,7 +10,7 @@ use native.Mathlib.Omega.{arith}
 use lib.ListN.{length, getD}
 use Rattle.order.specs.Positions.{has, shared}
 use Rattle.order.specs.Jobs.{Kind, Lawful, ifAccepted, after, samples, owns, Apart, Separate}
-use Rattle.order.proofs.Tests.{and-both}
+use Rattle.order.proofs.Tests.{by-test, and-both}
 use Rattle.order.proofs.Positions.{length-gather, length-put, gather-agree, gather-at, gather-put, put-outside, shared-none}
 
 by-answer : {C : Type 0} (m : ℕ) → (m ≡ 0 → C) → ((m ≡ 0 → ⊥) → C) → C
@@ -85,3 +85,15 @@ module _ {A J : Type 0} (w : Kind A J) (n : ℕ) where
 
   pub separate-cons : (j : J) (js : List J) → ((k : J) → List·Memᴰ k js → Apart (owns w n) j k) → Separate w n js → Separate w n (j ∷ js)
   separate-cons j js h s = Pairwise·cons (λ k m. ∥∥₁-elim m (apart-prop j k) (h k)) s
+
+-- two buffers that agree on the positions W, among them all that the job owns, agree there after the job too
+pub after-agree : {A J : Type 0} {w : Kind A J} → Lawful w → (W : ℕ → Type 0) (b c : List A) (j : J) → length b ≡ length c
+    → ((p : ℕ) → owns w (length b) j p ≡ true → W p) → ((p : ℕ) → W p → getD b p (w .blank) ≡ getD c p (w .blank))
+    → (p : ℕ) → W p → getD (after w j b) p (w .blank) ≡ getD (after w j c) p (w .blank)
+after-agree {w} l W b c j e own h p v =
+    by-test (owns w (length b) j p)
+    (λ o. let a = owns-accepted w (length b) j p o in
+    gather-at (w .blank) (after w j b) (after w j c) (w .area j)
+    (outside-does-not-matter l b c j e (gather-agree (w .blank) b c (w .area j) (λ q s. h q (own q (accepted-owns w (length b) j q (a .0) s)))) .1)
+    p (a .1))
+    (λ o. elsewhere-unchanged w b j p o ∙ h p v ∙ sym (elsewhere-unchanged w c j p (rw e at o)))
