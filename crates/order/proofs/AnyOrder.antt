@@ -1,11 +1,10 @@
 -- Jobs of which no two accepted ones share a sample may be done in any order: the buffer ends the same, and each job answers as it does alone.
 -- The way: such jobs leave a buffer that `Ended` describes, `Ended` does not go by the order of its jobs, and it describes one buffer only.
-use Prim.Native.Nat.{ℕ}
-use mathlib.Core.Path.{_≡_, refl, sym, ap, _∙_}
+use mathlib.Core.Path.{_≡_, refl, sym, _∙_}
 use mathlib.Core.Logic.{⊎-elim, ∥∥₁-elim}
-use mathlib.Core.Bool.{Bool-set, true, false}
-use mathlib.Core.List.{List, map, List·Memᴰ, List·isSet, Perm, Perm·mem-iff, Perm·pairwise}
-use lib.ListN.{length, getD}
+use mathlib.Core.Bool.{Bool-set}
+use mathlib.Core.List.{List, map, List·isSet, Perm, Perm·mem-iff, Perm·pairwise}
+use lib.ListN.{length}
 use lib.Seq.{ext-getD}
 use Rattle.order.specs.Jobs.{Kind, Lawful, jobs, answers, owns, Separate, Ended}
 use Rattle.order.proofs.Positions.{gather-at}

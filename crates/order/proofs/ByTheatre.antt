@@ -23,7 +23,8 @@ module _ {A Θ J : Type 0} {w : Kind A J} (l : Lawful w) (dec : Discrete Θ) (th
       mem-filter (λ j. dec (th j) (th k)) .0 (subst (List·Mem k) (sym (same (th k))) (mem-filter (λ j. dec (th j) (th k)) .1 (m, refl))) .0
 
   -- any two members of different theatres are apart
-  members-apart : (n : ℕ) (js : List J) → SeparateTheatres w n th js → (j : J) → List·Mem j js → (k : J) → List·Mem k js → (th j ≡ th k → ⊥) → Apart (owns w n) j k
+  members-apart : (n : ℕ) (js : List J) → SeparateTheatres w n th js
+      → (j : J) → List·Mem j js → (k : J) → List·Mem k js → (th j ≡ th k → ⊥) → Apart (owns w n) j k
   members-apart n js s =
       Pairwise·forall-of-forall-of-flip (λ j k. Π-prop (λ ne. apart-prop w n j k)) (λ j m ne. absurd (ne refl)) s
       (Pairwise·imp (λ j k a ne. apart-sym w n j k (a (λ e. ne (sym e)))) s)

@@ -1,10 +1,10 @@
 -- One job of a lawful kind: what it leaves in its area, what it leaves elsewhere, and what it goes by.
 -- Then laws of `owns`, of `Apart` and of `Separate`, by which a list of jobs is shown to be separate.
 use Prim.Native.Nat.{ℕ, zero, suc}
-use mathlib.Core.Path.{_≡_, refl, sym, ap, subst, _∙_}
+use mathlib.Core.Path.{_≡_, refl, sym, ap, _∙_}
 use mathlib.Core.HLevel.{Π-prop, ⊥-prop}
 use mathlib.Core.Logic.{∥∥₁-elim}
-use mathlib.Core.Bool.{Bool, true, false}
+use mathlib.Core.Bool.{true, false, false≢true}
 use mathlib.Core.List.{List, [], _∷_, List·Memᴰ, Pairwise·cons}
 use native.Mathlib.Omega.{arith}
 use lib.ListN.{length, getD}
@@ -68,7 +68,7 @@ module _ {A J : Type 0} (w : Kind A J) (n : ℕ) where
   pub owns-accepted : (j : J) (p : ℕ) → owns w n j p ≡ true → (w .number n j ≡ 0) × (has (w .area j) p ≡ true)
   owns-accepted j p h =
       let o = and-both _ _ h in
-      (by-answer (w .number n j) (λ z. z) (λ z. absurd (mathlib.Core.Bool.false≢true (sym (if-refused (w .number n j) true false z) ∙ o .0))), o .1)
+      (by-answer (w .number n j) (λ z. z) (λ z. absurd (false≢true (sym (if-refused (w .number n j) true false z) ∙ o .0))), o .1)
 
   -- jobs whose areas share nothing are apart; accepted jobs, only those
   pub apart-of-shared : (j k : J) → shared (w .area j) (w .area k) ≡ [] → Apart (owns w n) j k

@@ -4,7 +4,7 @@
 --   gather-…, put-…              reading the samples at the positions, and writing them
 --   shared-…                     what two lists share
 -- Rows of positions have a file of their own.
-use Prim.Native.Nat.{ℕ, zero, suc, _<_}
+use Prim.Native.Nat.{ℕ, suc, _<_}
 use native.Mathlib.Omega.{arith}
 use mathlib.Core.Path.{_≡_, refl, sym, ap, subst, _∙_}
 use mathlib.Core.Logic.{_↔_, ⊎-elim}
@@ -34,10 +34,6 @@ has-append (x ∷ xs) ys p = rw (has-append xs ys p) (sym (or-assoc (eqb x p) (h
 pub below-append : (n : ℕ) (xs ys : List ℕ) → Below n xs → Below n ys → Below n (xs ++ ys)
 below-append n [] ys u v = v
 below-append n (x ∷ xs) ys u v = (u .0, below-append n xs ys (u .1) v)
-
-pub below-has : (n : ℕ) (ps : List ℕ) → Below n ps → (p : ℕ) → has ps p ≡ true → p < n
-below-has n [] u p h = absurd (false≢true h)
-below-has n (q ∷ ps) u p h = has-cases q ps p h (λ e. let l : q < n = u .0 in omega arith) (below-has n ps (u .1) p)
 
 -- ---- ascending lists
 pub ascending-tail : (p : ℕ) (ps : List ℕ) → Ascending (p ∷ ps) → Ascending ps

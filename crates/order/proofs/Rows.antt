@@ -2,21 +2,21 @@
 --   row-…    one run of positions, the part of a buffer that is lent from a
 --   rows-…   rows a pitch apart
 --   …-step   one row more: a turn of a loop over the rows
-use Prim.Native.Nat.{ℕ, zero, suc, _+_, _-_, _*_, _≤_, _<_}
+use Prim.Native.Nat.{ℕ, zero, suc, _+_, _-_, _*_, _≤_, _<_, min, max}
 use native.Mathlib.Nat.{add-zero, zero-add, add-suc, suc-add, add-comm, zero-mul, suc-mul}
 use native.Mathlib.Omega.{arith}
 use native.Mathlib.Decide.{decLt}
-use mathlib.Core.Path.{_≡_, refl, sym, ap, subst, _∙_}
+use mathlib.Core.Path.{_≡_, refl, sym, ap, _∙_}
 use mathlib.Core.Logic.{_↔_, _⊎_, inl, inr, ⊎-elim, dite}
-use mathlib.Core.Bool.{true, false, false≢true}
+use mathlib.Core.Bool.{true, false≢true}
 use mathlib.Core.List.{List, [], _∷_, _++_, append-assoc, append-nil}
 use lib.Dec.{eqb}
 use lib.ListN.{length, set, take, drop, length-drop, length-append}
 use lib.Seq.{length-take-le, drop-cons, drop-drop, sets, sets-eq}
 use borrow.Author.Tests.{eqb-false}
 use Rattle.order.specs.Positions.{row, rows, reach, has, shared, Distinct, Ascending, Below, gather, put, change}
-use Rattle.order.proofs.Tests.{by-test, not-both, never-true, or-cases, or-left}
-use Rattle.order.proofs.Positions.{has-tail, has-cases, has-append, below-append, ascending-cons, ascending-append, ascending-distinct, gather-append, put-append, length-put, shared-none, shared-none-append}
+use Rattle.order.proofs.Tests.{by-test, same-test, or-cases, or-left}
+use Rattle.order.proofs.Positions.{has-tail, has-cases, has-append, below-append, ascending-cons, ascending-append, ascending-distinct, ascending-same, gather-append, put-append, length-put, shared-both, both-shared, shared-ascending, shared-none-append}
 
 -- ---- one row
 pub has-row : (a m p : ℕ) → has (row a m) p ≡ true → (a ≤ p) × (p < a + m)
@@ -30,9 +30,6 @@ row-has a (suc m) p l g =
     by-test (eqb a p)
     (λ t. or-left _ _ t)
     (λ t. let ne = eqb-false a p t in has-tail a (row (suc a) m) p (row-has (suc a) m p (omega arith) (omega arith)))
-
-pub row-misses : (a m p : ℕ) → (p < a) ⊎ (a + m ≤ p) → has (row a m) p ≡ false
-row-misses a m p h = never-true _ (λ t. let w = has-row a m p t in ⊎-elim (λ q. omega arith) (λ q. omega arith) h)
 
 pub row-ascending : (a m : ℕ) → Ascending (row a m)
 row-ascending a zero = tt
@@ -53,21 +50,27 @@ pub row-add : (a m k : ℕ) → row a (m + k) ≡ row a m ++ row (a + m) k
 row-add a zero k = rw (zero-add, add-zero)
 row-add a (suc m) k = rw (suc-add m k, row-add (suc a) m k, add-suc a m, suc-add a m)
 
--- two rows, neither empty, share nothing where one ends before the other begins, and only there
-pub shared-row : (a m b k : ℕ) → 1 ≤ m → 1 ≤ k → (shared (row a m) (row b k) ≡ []) ↔ ((a + m ≤ b) ⊎ (b + k ≤ a))
-shared-row a m b k u v = (λ e. ends (shared-none (row a m) (row b k) .0 e) (decLt b (a + m)) (decLt a (b + k)), λ h. shared-none (row a m) (row b k) .1 (apart h))
+-- two rows share the run from the later start to the earlier end
+pub shared-row : (a m b k : ℕ) → shared (row a m) (row b k) ≡ row (max a b) (min (a + m) (b + k) - max a b)
+shared-row a m b k =
+    ascending-same (shared (row a m) (row b k)) (row s n) (shared-ascending (row a m) (row b k) (row-ascending a m)) (row-ascending s n) (λ p.
+    same-test _ _
+    (λ t. let o = shared-both (row a m) (row b k) p t in let x = has-row a m p (o .0) in let y = has-row b k p (o .1) in row-has s n p (omega arith) (omega arith))
+    (λ t. let x = has-row s n p t in both-shared (row a m) (row b k) p (row-has a m p (omega arith) (omega arith)) (row-has b k p (omega arith) (omega arith))))
   where
-    apart : (a + m ≤ b) ⊎ (b + k ≤ a) → (p : ℕ) → has (row a m) p ≡ true → has (row b k) p ≡ true → ⊥
-    apart h p s t = let x = has-row a m p s in let y = has-row b k p t in ⊎-elim (λ q. omega arith) (λ q. omega arith) h
+    s : ℕ
+    s = max a b
 
-    both : (p : ℕ) → a ≤ p → p < a + m → b ≤ p → p < b + k → ((p : ℕ) → has (row a m) p ≡ true → has (row b k) p ≡ true → ⊥) → ⊥
-    both p g i j l h = h p (row-has a m p g i) (row-has b k p j l)
+    n : ℕ
+    n = min (a + m) (b + k) - max a b
 
-    ends : ((p : ℕ) → has (row a m) p ≡ true → has (row b k) p ≡ true → ⊥) → Dec (b < a + m) → Dec (a < b + k) → (a + m ≤ b) ⊎ (b + k ≤ a)
-    ends h (no s) t = inl (omega arith)
-    ends h (yes s) (no t) = inr (omega arith)
-    ends h (yes s) (yes t) =
-        absurd (dite (decLt a b) (λ l. both b (omega arith) (omega arith) (omega arith) (omega arith) h) (λ l. both a (omega arith) (omega arith) (omega arith) (omega arith) h))
+-- so two rows, neither empty, share nothing where one ends before the other begins, and only there
+pub shared-row-none : (a m b k : ℕ) → 1 ≤ m → 1 ≤ k → (shared (row a m) (row b k) ≡ []) ↔ ((a + m ≤ b) ⊎ (b + k ≤ a))
+shared-row-none a m b k u v = (
+  λ e. let z = sym (length-row (max a b) (min (a + m) (b + k) - max a b)) ∙ ap length (sym (shared-row a m b k) ∙ e) in
+      dite (decLt b (a + m)) (λ s. inr (omega arith)) (λ s. inl (omega arith)),
+  λ h. let z : min (a + m) (b + k) - max a b ≡ 0 = ⊎-elim (λ q. omega arith) (λ q. omega arith) h in shared-row a m b k ∙ rw z,
+)
 
 module _ {A : Type 0} (d : A) where
   pub gather-row : (b : List A) (a m : ℕ) → a + m ≤ length b → gather d b (row a m) ≡ take m (drop a b)
@@ -163,7 +166,8 @@ module _ {A : Type 0} (d : A) where
       ∙ put-row d (put b (rows a w pitch h) vs) (a + h * pitch) w us eu (rw length-put l)
 
 -- one row more shares nothing
-pub shared-rows-step : (ps : List ℕ) (a w pitch h : ℕ) → (shared ps (rows a w pitch (suc h)) ≡ []) ↔ ((shared ps (rows a w pitch h) ≡ []) × (shared ps (row (a + h * pitch) w) ≡ []))
+pub shared-rows-step : (ps : List ℕ) (a w pitch h : ℕ)
+    → (shared ps (rows a w pitch (suc h)) ≡ []) ↔ ((shared ps (rows a w pitch h) ≡ []) × (shared ps (row (a + h * pitch) w) ≡ []))
 shared-rows-step ps a w pitch h = rw rows-snoc (shared-none-append ps (rows a w pitch h) (row (a + h * pitch) w))
 
 -- where the rows share nothing, none of them does
