@@ -36,6 +36,12 @@ abbrev pub Distinct : List ℕ → Type 0
 Distinct [] = Unit {0}
 Distinct (p ∷ ps) = (has ps p ≡ false) × Distinct ps
 
+-- each position is below the next
+abbrev pub Ascending : List ℕ → Type 0
+Ascending [] = Unit {0}
+Ascending (p ∷ []) = Unit {0}
+Ascending (p ∷ (q ∷ ps)) = (p < q) × Ascending (q ∷ ps)
+
 -- each position is below n
 abbrev pub Below : ℕ → List ℕ → Type 0
 Below n [] = Unit {0}

@@ -1,0 +1,126 @@
+-- Jobs of several theatres. Where no two accepted jobs of different theatres share a sample, any rearrangement that keeps each theatre's own order
+-- leaves the same buffer, and each job answers as it does alone. With each job under a theatre of its own that is the statement for any order.
+-- The way: on the samples of one theatre, all the jobs do what that theatre's jobs do alone; samples of no theatre are unchanged.
+use Prim.Native.Nat.{ℕ}
+use mathlib.Core.Path.{_≡_, refl, sym, ap, subst, _∙_}
+use mathlib.Core.HLevel.{Discrete, Π-prop, ⊥-prop}
+use mathlib.Core.Logic.{⊎-elim, ∥∥₁-elim, ite}
+use mathlib.Core.Bool.{Bool-set, true, false}
+use mathlib.Core.List.{List, [], _∷_, map, List·Mem, List·Memᴰ, List·Memᴰ·head, List·Memᴰ·tail, List·isSet, mem-filter, Perm, List·Permᴰ, List·Permᴰ·nil, List·Permᴰ·cons, List·Permᴰ·swap, List·Permᴰ·trans, Permᴰ·pairwise, Pairwise·cons, Pairwise·imp, Pairwise·forall-of-forall-of-flip}
+use lib.ListN.{length, getD}
+use lib.Seq.{ext-getD}
+use Rattle.order.specs.Jobs.{Kind, Lawful, after, jobs, answers, owns, Apart, Separate}
+use Rattle.order.specs.Theatres.{only, SameByTheatre, SeparateTheatres, OwnTheatres}
+use Rattle.order.proofs.Tests.{never-true}
+use Rattle.order.proofs.OneJob.{length-after, elsewhere-unchanged, after-agree, apart-prop, apart-sym}
+use Rattle.order.proofs.Steps.{owner, length-jobs, jobs-outside}
+use Rattle.order.proofs.AnyOrder.{answers-alone}
+
+module _ {A Θ J : Type 0} {w : Kind A J} (l : Lawful w) (dec : Discrete Θ) (th : J → Θ) where
+  -- the same by theatre, so the same members
+  same-members : (js ks : List J) → SameByTheatre dec th js ks → (k : J) → List·Mem k ks → List·Mem k js
+  same-members js ks same k m =
+      mem-filter (λ j. dec (th j) (th k)) .0 (subst (List·Mem k) (sym (same (th k))) (mem-filter (λ j. dec (th j) (th k)) .1 (m, refl))) .0
+
+  -- any two members of different theatres are apart
+  members-apart : (n : ℕ) (js : List J) → SeparateTheatres w n th js
+      → (j : J) → List·Mem j js → (k : J) → List·Mem k js → (th j ≡ th k → ⊥) → Apart (owns w n) j k
+  members-apart n js s =
+      Pairwise·forall-of-forall-of-flip (λ j k. Π-prop (λ ne. apart-prop w n j k)) (λ j m ne. absurd (ne refl)) s
+      (Pairwise·imp (λ j k a ne. apart-sym w n j k (a (λ e. ne (sym e)))) s)
+
+  -- on the positions W, which hold all that the jobs of theatre t own and nothing that another owns, the jobs do what those of t do alone
+  jobs-only : (n : ℕ) (t : Θ) (W : ℕ → Type 0) (js : List J)
+      → ((j : J) → List·Memᴰ j js → th j ≡ t → (p : ℕ) → owns w n j p ≡ true → W p)
+      → ((j : J) → List·Memᴰ j js → (th j ≡ t → ⊥) → (p : ℕ) → W p → owns w n j p ≡ false)
+      → (b c : List A) → length b ≡ n → length c ≡ n → ((p : ℕ) → W p → getD b p (w .blank) ≡ getD c p (w .blank))
+      → (p : ℕ) → W p → getD (jobs w js b) p (w .blank) ≡ getD (jobs w (only dec th t js) c) p (w .blank)
+  jobs-only n t W [] hi ho b c e f h p v = h p v
+  jobs-only n t W (j ∷ js) hi ho b c e f h p v =
+      go (dec (th j) t)
+      (λ c f h. jobs-only n t W js (λ k m. hi k (List·Memᴰ·tail m)) (λ k m. ho k (List·Memᴰ·tail m)) (after w j b) c (length-after w b j ∙ e) f h p v)
+    where
+      go : (x : Dec (th j ≡ t))
+          → ((c : List A) → length c ≡ n → ((q : ℕ) → W q → getD (after w j b) q (w .blank) ≡ getD c q (w .blank))
+          → getD (jobs w js (after w j b)) p (w .blank) ≡ getD (jobs w (only dec th t js) c) p (w .blank))
+          → getD (jobs w js (after w j b)) p (w .blank) ≡ getD (jobs w (ite x (j ∷ only dec th t js) (only dec th t js)) c) p (w .blank)
+      go (yes q) rest =
+          rest (after w j c) (length-after w c j ∙ f) (after-agree l W b c j (e ∙ sym f) (rw e (hi j (List·Memᴰ·head refl) q)) h)
+      go (no q) rest =
+          rest c f (λ r v. elsewhere-unchanged w b j r (rw e (ho j (List·Memᴰ·head refl) q r v)) ∙ h r v)
+
+  -- a rearrangement that keeps each theatre's own order leaves the same buffer, and each job answers as it does alone
+  pub by-theatre : (b : List A) (js ks : List J) → SameByTheatre dec th js ks → SeparateTheatres w (length b) th js
+      → (jobs w ks b ≡ jobs w js b) × (answers w ks b ≡ map (w .number (length b)) ks)
+  by-theatre b js ks same sep = (
+    ext-getD (w .blank) (jobs w ks b) (jobs w js b) (length-jobs w n ks b refl ∙ sym (length-jobs w n js b refl)) (λ p _.
+        ⊎-elim
+        (λ o. owned (th (o .0)) p (o .0, ∣ o .1 ∣₁, refl, o .2))
+        (λ h. jobs-outside w n ks b refl p (λ k m. ∥∥₁-elim (from k ∣ m ∣₁) (Bool-set _ _) (h k)) ∙ sym (jobs-outside w n js b refl p h))
+        (owner (owns w n) js p)),
+    answers-alone w b ks,
+  )
+    where
+      n : ℕ
+      n = length b
+
+      from : (k : J) → List·Mem k ks → List·Mem k js
+      from = same-members js ks same
+
+      -- the samples of theatre t
+      Own : Θ → ℕ → Type 0
+      Own t p = (j : J) × List·Mem j js × (th j ≡ t) × (owns w n j p ≡ true)
+
+      -- jobs from js leave there what those of theatre t leave alone
+      alone : (x : List J) → ((k : J) → List·Mem k x → List·Mem k js) → (t : Θ) (p : ℕ) → Own t p
+          → getD (jobs w x b) p (w .blank) ≡ getD (jobs w (only dec th t x) b) p (w .blank)
+      alone x sub t =
+          jobs-only n t (Own t) x
+          (λ j m q p o. (j, sub j ∣ m ∣₁, q, o))
+          (λ j m ne p v. never-true _ (λ o. members-apart n js sep j (sub j ∣ m ∣₁) (v .0) (v .1) (λ q. ne (q ∙ v .2)) p o (v .3)))
+          b b refl refl (λ p _. refl)
+
+      owned : (t : Θ) (p : ℕ) → Own t p → getD (jobs w ks b) p (w .blank) ≡ getD (jobs w js b) p (w .blank)
+      owned t p v = alone ks from t p v ∙ ap (λ x. getD (jobs w x b) p (w .blank)) (sym (same t)) ∙ sym (alone js (λ k m. m) t p v)
+
+-- ---- each job under a theatre of its own
+module _ {Θ J : Type 0} (dec : Discrete Θ) (th : J → Θ) where
+  -- one job more of the list is kept, where it is of theatre t
+  abbrev more : Θ → J → List J → List J
+  more t j js = ite (dec (th j) t) (j ∷ js) js
+
+  more-swap : (t : Θ) (j k : J) (js : List J) → (th j ≡ th k → ⊥) → more t j (more t k js) ≡ more t k (more t j js)
+  more-swap t j k js ne = go (dec (th j) t) (dec (th k) t)
+    where
+      go : (x : Dec (th j ≡ t)) (y : Dec (th k ≡ t)) → ite x (j ∷ ite y (k ∷ js) js) (ite y (k ∷ js) js) ≡ ite y (k ∷ ite x (j ∷ js) js) (ite x (j ∷ js) js)
+      go (yes e) (yes f) = absurd (ne (e ∙ sym f))
+      go (yes e) (no f) = refl
+      go (no e) (yes f) = refl
+      go (no e) (no f) = refl
+
+  -- then any rearrangement keeps each theatre's own order
+  own-theatres-sameᴰ : {js ks : List J} → List·Permᴰ js ks → OwnTheatres th js → SameByTheatre dec th js ks
+  own-theatres-sameᴰ List·Permᴰ·nil h t = refl
+  own-theatres-sameᴰ (List·Permᴰ·cons {a = x} {l₂ = ks} q s) (Pairwise·cons h o) t =
+      ap (more t x) (own-theatres-sameᴰ s o t) ∙ ap (λ z. more t z (only dec th t ks)) q
+  own-theatres-sameᴰ (List·Permᴰ·swap {a = x} {b = y} {b′ = z} {l = l} q r) (Pairwise·cons h o) t =
+      more-swap t x y (only dec th t l) (h y ∣ List·Memᴰ·head refl ∣₁)
+      ∙ ap (λ v. more t y (more t v (only dec th t l))) q
+      ∙ ap (λ v. more t v (more t z (only dec th t l))) r
+  own-theatres-sameᴰ (List·Permᴰ·trans s₁ s₂) h t =
+      own-theatres-sameᴰ s₁ h t ∙ own-theatres-sameᴰ s₂ (Permᴰ·pairwise (λ j k. Π-prop (λ e. ⊥-prop)) (λ j k n e. n (sym e)) s₁ h) t
+
+  pub own-theatres-same : IsSet J → (js ks : List J) → Perm js ks → OwnTheatres th js → SameByTheatre dec th js ks
+  own-theatres-same set js ks s o t = ∥∥₁-elim s (List·isSet set _ _) (λ d. own-theatres-sameᴰ d o t)
+
+-- and separate jobs are separate by theatre
+pub separate-theatres : {A Θ J : Type 0} (w : Kind A J) (n : ℕ) (th : J → Θ) (js : List J) → Separate w n js → SeparateTheatres w n th js
+separate-theatres w n th js s = Pairwise·imp (λ j k a ne. a) s
+
+-- so the statement for any order follows
+pub any-order-again : {A Θ J : Type 0} {w : Kind A J} → Lawful w → Discrete Θ → (th : J → Θ) (b : List A) (js ks : List J)
+    → OwnTheatres th js → Perm js ks → Separate w (length b) js → (jobs w ks b ≡ jobs w js b) × (answers w ks b ≡ map (w .number (length b)) ks)
+any-order-again {w} l dec th b js ks o s sep = (
+  ∥∥₁-elim s (List·isSet (l .aset) _ _) (λ d. by-theatre l dec th b js ks (own-theatres-sameᴰ dec th d o) (separate-theatres w (length b) th js sep) .0),
+  answers-alone w b ks,
+)

@@ -1,0 +1,8 @@
+-- Laws and theorems of jobs on one buffer. Read OneJob, AnyOrder and ByTheatre; the others lead there, and serve the crates above.
+pub mod Tests
+pub mod Positions
+pub mod Rows
+pub mod OneJob
+pub mod Steps
+pub mod AnyOrder
+pub mod ByTheatre
