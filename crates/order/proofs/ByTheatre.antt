@@ -6,7 +6,7 @@ use mathlib.Core.Path.{_≡_, refl, sym, ap, subst, _∙_}
 use mathlib.Core.HLevel.{Discrete, Π-prop, ⊥-prop}
 use mathlib.Core.Logic.{⊎-elim, ∥∥₁-elim, ite}
 use mathlib.Core.Bool.{Bool-set, true, false}
-use mathlib.Core.List.{List, [], _∷_, map, List·Mem, List·Memᴰ, List·Memᴰ·head, List·Memᴰ·tail, List·isSet, mem-filter, Perm, List·Permᴰ, List·Permᴰ·nil, List·Permᴰ·cons, List·Permᴰ·swap, List·Permᴰ·trans, Permᴰ·pairwise, Pairwise·cons, Pairwise·imp, Pairwise·forall-of-forall-of-flip}
+use mathlib.Core.List.{List, [], _∷_, map, List·Mem, List·Memᴰ, List·Memᴰ·head, List·Memᴰ·tail, List·isSet, mem-filter, Perm, List·Permᴰ, List·Permᴰ·nil, List·Permᴰ·cons, List·Permᴰ·swap, List·Permᴰ·trans, Permᴰ·pairwise, Pairwise, Pairwise·cons, Pairwise·imp, Pairwise·forall-of-forall-of-flip}
 use lib.ListN.{length, getD}
 use lib.Seq.{ext-getD}
 use Rattle.order.specs.Jobs.{Kind, Lawful, after, jobs, answers, owns, Apart, Separate}
@@ -17,13 +17,13 @@ use Rattle.order.proofs.Steps.{owner, length-jobs, jobs-outside}
 use Rattle.order.proofs.AnyOrder.{answers-alone}
 
 module _ {A Θ J : Type 0} {w : Kind A J} (l : Lawful w) (dec : Discrete Θ) (th : J → Θ) where
-  -- the same by theatre, so the same members
-  same-members : (js ks : List J) → SameByTheatre dec th js ks → (k : J) → List·Mem k ks → List·Mem k js
-  same-members js ks same k m =
-      mem-filter (λ j. dec (th j) (th k)) .0 (subst (List·Mem k) (sym (same (th k))) (mem-filter (λ j. dec (th j) (th k)) .1 (m, refl))) .0
+  -- a job is in a list where it is among its theatre's jobs of the list
+  same-member : (js ks : List J) (k : J) → only dec th (th k) js ≡ only dec th (th k) ks → List·Mem k ks → List·Mem k js
+  same-member js ks k e m =
+      mem-filter (λ j. dec (th j) (th k)) .0 (subst (List·Mem k) (sym e) (mem-filter (λ j. dec (th j) (th k)) .1 (m, refl))) .0
 
   -- any two members of different theatres are apart
-  members-apart : (n : ℕ) (js : List J) → SeparateTheatres w n th js
+  members-apart : (n : ℕ) (js : List J) → Pairwise (λ j k. (th j ≡ th k → ⊥) → Apart (owns w n) j k) js
       → (j : J) → List·Mem j js → (k : J) → List·Mem k js → (th j ≡ th k → ⊥) → Apart (owns w n) j k
   members-apart n js s =
       Pairwise·forall-of-forall-of-flip (λ j k. Π-prop (λ ne. apart-prop w n j k)) (λ j m ne. absurd (ne refl)) s
@@ -65,7 +65,7 @@ module _ {A Θ J : Type 0} {w : Kind A J} (l : Lawful w) (dec : Discrete Θ) (th
       n = length b
 
       from : (k : J) → List·Mem k ks → List·Mem k js
-      from = same-members js ks same
+      from k = same-member js ks k (same (th k))
 
       -- the samples of theatre t
       Own : Θ → ℕ → Type 0
