@@ -1,23 +1,17 @@
 -- Laws of block jobs: a block keeps its length; what an accepted job knows of its numbers, and that they are all that is asked; that block
 -- jobs are lawful, so that the theory of order applies to them. Assumes nothing.
-use Prim.Native.Nat.{ℕ, _+_, _*_, _^_, _≤_, _<_}
+use Prim.Native.Nat.{ℕ, _+_, _*_, _≤_}
 use native.Mathlib.Nat.{le-refl}
-use native.Mathlib.Omega.{arith}
 use lib.Pow.{pow-pos}
-use mathlib.Core.Path.{_≡_, refl, sym, ap, subst, _∙_}
-use mathlib.Core.Bool.{Bool, true, false, _||_}
-use mathlib.Core.List.{List, map}
-use lib.Dec.{ltb}
+use mathlib.Core.Path.{_≡_, _∙_}
+use mathlib.Core.List.{List}
 use borrow.Author.Tests.{ltb-false, le-ltb}
 use lib.ListN.{length, length-map}
 use lib.IntN.{ℤ, ℤ-set}
 use Rattle.integers.proofs.Written.{tab-length}
-use Rattle.order.specs.Positions.{Distinct, Below, reach}
 use Rattle.order.specs.Jobs.{Lawful}
-use Rattle.order.proofs.Tests.{or-neither}
 use Rattle.order.proofs.Rows.{rows-distinct, rows-below, reach-packed}
 use Rattle.evc.specs.declared.Job.{Job}
-use Rattle.evc.specs.Tests.{outside, first}
 use Rattle.evc.specs.Jobs.{width, height, pitch, area, areaEnd, testsAs, jobTests, jobNumber, block, blockJobs}
 use Rattle.evc.proofs.Tests.{Unbroken, unbroken, first-none, outside-no, inside-no}
 

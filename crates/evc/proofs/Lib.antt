@@ -5,3 +5,4 @@ pub mod Tests
 pub mod Lowest
 pub mod Jobs
 pub mod AnyOrder
+pub mod SubBlocks

@@ -3,15 +3,15 @@
 -- Assumes nothing.
 use Prim.Native.Nat.{ℕ, zero, suc, _≤_}
 use native.Mathlib.Omega.{arith}
-use mathlib.Core.Path.{_≡_, refl, sym, ap, _∙_}
+use mathlib.Core.Path.{_≡_, refl, ap}
 use mathlib.Core.Bool.{Bool, true, false, cond}
-use mathlib.Core.List.{List, [], _∷_, _++_}
+use mathlib.Core.List.{List, [], _∷_}
 use lib.Dec.{ltb}
 use borrow.Author.Tests.{ltb-false, le-ltb}
 use Rattle.order.proofs.Tests.{or-neither}
 use Rattle.evc.specs.declared.Refusal.{Refusal}
 use Rattle.evc.specs.declared.Refusal.the-variants.{Size, Qp, Shift, Depth, Area, Overlap, Sample}
-use Rattle.evc.specs.Answers.{number, Reply, value, refused, replyNumber}
+use Rattle.evc.specs.Answers.{number, value, refused, replyNumber}
 use Rattle.evc.specs.Tests.{Test, first, reply, outside}
 
 -- no test of the list is broken, test by test
