@@ -1,11 +1,11 @@
 -- `floorPow z k` is the floor of z / 2^k: the one q with q · 2^k ≤ z < (q + 1) · 2^k. Stated of any divisor m that is not 0, since
 -- `floorPow z k` is `shrZ z (2 ^ k)`, as the machine's `>>` is; `pow-pos k` shows that 2^k is not 0.
 -- First that the floor lies there and is the only one, then that it grows with z, and that whole multiples come out. Assumes nothing.
-use mathlib.Core.Path.{_≡_, refl, sym, ap, _∙_, subst}
-use Prim.Native.Nat.{ℕ, zero, suc, _+_, _*_, _/_, _%_, _≤_, _<_, _^_}
+use mathlib.Core.Path.{_≡_, sym, _∙_}
+use Prim.Native.Nat.{ℕ, suc, _+_, _*_, _/_, _%_, _≤_, _<_}
 use native.Mathlib.Omega.{arith}
 use native.Mathlib.Nat.{div-add-mod', mod-lt, lt-of-mul-lt-mul-right}
-use lib.IntN.{ℤ, pos, negsuc, _+ℤ_, _-ℤ_, _*ℤ_, negℤ}
+use lib.IntN.{ℤ, pos, negsuc, _+ℤ_, _*ℤ_}
 use lib.Signed.{_≤ℤ_, _<ℤ_, shrZ}
 use Rattle.integers.proofs.Dif.{dif, up, dn, of, of-pos, dif-eq, difs}
 use Rattle.integers.proofs.Order.{nat-≤, ≤ℤ-trans, dif-≤, dif-<, ≤-dif, <-dif}

@@ -1,15 +1,13 @@
 -- `integers::abs_i32` meets its contract: the larger of a number and its negation is its absolute value. Assumes nothing.
 use borrow.Author.Needs.{needs}
-use mathlib.Core.Path.{_≡_, sym, ap, ap₂, _∙_, subst}
+use mathlib.Core.Path.{_≡_, ap₂, _∙_}
 use mathlib.Core.List.{[], _∷_}
 use Prim.Native.Nat.{ℕ}
 use native.Mathlib.Omega.{arith}
-use lib.Dec.{T}
 use lib.IntN.{ℤ, pos, negsuc, negℤ, _-ℤ_, natAbs, +ℤ-idl}
-use lib.Signed.{_≤ℤ_, nonNeg, leZ-yes}
+use lib.Signed.{_≤ℤ_, leZ-yes}
 use mir.Syntax.{w32, w64}
-use mir.Val.{Fits}
-use mir.Facts.{toZ-ofZ, fits-natAbs}
+use mir.Facts.{fits-natAbs}
 use Rattle.integers.specs.Z.{maxZ}
 use Rattle.integers.proofs.Dif.{of, difs}
 use Rattle.integers.proofs.Order.{signed, nat-≤, dif-≤}
