@@ -39,8 +39,8 @@ minus = sub (lit (pos 0)) y
 cast-y : tie.Need-cast-y
 cast-y c = fit (ρ c) w64 (var 0) tt
 
-sub-max-i64 : tie.Need-sub-max-i64
-sub-max-i64 c = fit (ρ c) w64 minus tt
+sub-minus : tie.Need-sub-minus
+sub-minus c = fit (ρ c) w64 minus tt
 
 max-i64-requires : tie.Need-max-i64-requires
 max-i64-requires c κs = search needs
@@ -56,4 +56,4 @@ returns : tie.Need-returns
 returns c = rw (back w64 (c .max-i64 .result) (c .max-i64 .ok), given c)
 
 pub abs-i32-spec : {M : Type 1} → statement M
-abs-i32-spec = tie.close (tie.spec cast-y sub-max-i64 max-i64-requires cast-result returns)
+abs-i32-spec = tie.close (tie.spec cast-y sub-minus max-i64-requires cast-result returns)
