@@ -6,7 +6,7 @@ use Prim.Native.Nat.{ℕ, zero, suc, _+_, _*_, _≤_, _^_}
 use native.Mathlib.Omega.{arith}
 use native.Mathlib.Nat.{le-trans, mul-le-mul, div-le-self}
 use lib.Dec.{T, ltb, ltb→lt}
-use lib.IntN.{ℤ, pos, negsuc, _+ℤ_, _-ℤ_, _*ℤ_, negℤ, natAbs, +ℤ-idl}
+use lib.IntN.{ℤ, pos, negsuc, _+ℤ_, _-ℤ_, _*ℤ_, negℤ, natAbs}
 use lib.Signed.{mag, shrZ, mag-shr, natAbs-le}
 use mir.Syntax.{Width}
 use mir.Val.{SFits, hbits}
@@ -37,10 +37,6 @@ abs-mul (pos a) (pos b) = refl
 abs-mul (pos a) (negsuc b) = abs-neg (pos (a * suc b))
 abs-mul (negsuc a) (pos b) = abs-neg (pos (suc a * b))
 abs-mul (negsuc a) (negsuc b) = refl
-
--- an absolute value by the sign, as code writes it
-pub abs-minus : (x : ℤ) → natAbs (pos 0 -ℤ x) ≡ natAbs x
-abs-minus x = ap natAbs (+ℤ-idl (negℤ x)) ∙ abs-neg x
 
 pub within-add : {m n : ℕ} {x y : ℤ} → Within m x → Within n y → Within (m + n) (x +ℤ y)
 within-add {m} {n} {x} {y} h k = record { bound = omega (arith, abs-add x y, h .bound, k .bound) }

@@ -1,8 +1,8 @@
 -- `floorPow z k` is the floor of z / 2^k: the one q with q · 2^k ≤ z < (q + 1) · 2^k. The machine's `>>` is stated by the same `shrZ`.
 -- First, of any divisor m, that `shrZ` lies there, and that two such are in order; then the laws of the floor: where it lies, that it is
 -- the only one, that it grows with z, and that whole multiples come out. Assumes nothing.
-use mathlib.Core.Path.{_≡_, sym, _∙_}
-use Prim.Native.Nat.{ℕ, suc, _+_, _*_, _/_, _%_, _≤_, _<_, _^_}
+use mathlib.Core.Path.{_≡_, sym}
+use Prim.Native.Nat.{ℕ, suc, _+_, _*_, _/_, _%_, _<_, _^_}
 use native.Mathlib.Omega.{arith}
 use native.Mathlib.Nat.{div-add-mod', mod-lt, lt-of-mul-lt-mul-right}
 use lib.Pow.{pow-pos}
