@@ -1,0 +1,16 @@
+-- The laws that every layer above proves with: `use Rattle.integers.proofs.Ring.{..}` in a crate that lists integers.
+
+-- whole numbers
+pub mod Dif
+pub mod Ring
+pub mod Order
+pub mod Bound
+pub mod Floor
+pub mod Bits
+pub mod Clip
+-- sums and lists, and the loops that make them
+pub mod Sum
+pub mod Written
+pub mod Loop
+-- tests that antt computes
+pub mod Every
