@@ -4,11 +4,11 @@
 use mathlib.Core.Path.{_≡_, refl, sym, ap, _∙_, subst}
 use mathlib.Core.Bool.{Bool, true, false, cond}
 use mathlib.Core.List.{List, [], _∷_}
-use Prim.Native.Nat.{ℕ, zero, suc, _+_, _-_, _*_, _≤_, _<_}
+use Prim.Native.Nat.{ℕ, zero, suc, _+_, _-_, _*_, _/_, _^_, _≤_, _<_}
 use native.Mathlib.Omega.{arith}
 use native.Mathlib.Decide.{ℕ-discrete}
-use native.Mathlib.Nat.{zero-mul, mul-comm, mul-zero, mul-le-mul, le-refl, le-mul-of-pos-right, le-of-suc-le-suc, not-suc-le-zero}
-use lib.Dec.{T, eqb}
+use native.Mathlib.Nat.{mul-comm, mul-le-mul, le-refl, le-mul-of-pos-right, le-of-suc-le-suc, not-suc-le-zero}
+use lib.Dec.{T, eqb, eqb→eq}
 use lib.ListN.{getD, drop, length}
 use lib.Seq.{getD-drop}
 use lib.IntN.{ℤ, pos, negℤ}
@@ -69,24 +69,14 @@ at : (k n : ℕ) → k < 64 → n < 64 → getD (row k) n (pos 0) ≡ tm64 k n
 unfolding row
 at k n hk hn = rw (getD-drop, stored-flat) (entry k n hk hn)
 
--- a factor of 32 is not 0, and at most 32
-factor : (m s : ℕ) → m * s ≡ 32 → (0 < m) × (m < 33)
-factor zero s e = absurd (no (rw zero-mul at e))
-  where
-    no : _≡_ {A = ℕ} 0 32 → ⊥
-    no h = omega arith
-factor (suc m) zero e = absurd (no (rw mul-zero at e))
-  where
-    no : _≡_ {A = ℕ} 0 32 → ⊥
-    no h = omega arith
-factor (suc m) (suc s) e = (omega arith, omega (arith, le-mul-of-pos-right {m = suc s} (suc m) (omega arith)))
+-- a factor of 32 is at most 32, and the other is not 0
+factor : (m s : ℕ) → m * s ≡ 32 → (m < 33) × (0 < s)
+factor m zero e = (omega arith, omega arith)
+factor m (suc s) e = (omega (arith, le-mul-of-pos-right {m = suc s} m (omega arith)), omega arith)
 
 module _ (m s : ℕ) (e : m * s ≡ 32) (k n : ℕ) (hk : k < m) (hn : n < m) where
-  m-small : (0 < m) × (m < 33)
-  m-small = factor m s e
-
-  s-small : (0 < s) × (s < 33)
-  s-small = factor s m (mul-comm s m ∙ e)
+  bounds : (m < 33) × (0 < s)
+  bounds = factor m s e
 
   here : T (size m s k)
   unfolding test
@@ -94,19 +84,39 @@ module _ (m s : ℕ) (e : m * s ≡ 32) (k n : ℕ) (hk : k < m) (hn : n < m) wh
       below-at (size m s) m
       (subst (λ (x : ℕ). T (cond (eqb x 32) (below (size m s) m) true)) e
       (below-at (λ s. cond (eqb (m * s) 32) (below (size m s) m) true) 33
-      (below-at (λ m. below (λ s. cond (eqb (m * s) 32) (below (size m s) m) true) 33) 33 passed m (m-small .1)) s (s-small .1))) k hk
+      (below-at (λ m. below (λ s. cond (eqb (m * s) 32) (below (size m s) m) true) 33) 33 passed m (bounds .0)) s (factor s m (mul-comm s m ∙ e) .0))) k hk
 
   -- the level's rows are rows of the table
   rows : k * s + s ≤ 32
   rows = omega (arith, mul-le-mul hk (le-refl s))
 
   carry : (f : ℤ → ℤ) (r : ℕ) → r < 64 → T (mirrored f m [] (row r)) → tm64 r (m + m - suc n) ≡ f (tm64 r n)
-  carry f r h t = sym (at r (m + m - suc n) h (omega (arith, m-small))) ∙ read f m [] (row r) t n hn ∙ ap f (at r n h (omega (arith, m-small)))
+  carry f r h t = sym (at r (m + m - suc n) h (omega (arith, bounds))) ∙ read f m [] (row r) t n hn ∙ ap f (at r n h (omega (arith, bounds)))
 
   pub even-mirror : tm64 (k * (s + s)) (m + m - suc n) ≡ tm64 (k * (s + s)) n
   unfolding size
-  even-mirror = carry (λ z. z) (k * (s + s)) (omega (arith, rows, s-small)) (both-left (mirrored (λ z. z) m [] (row (k * (s + s)))) _ here)
+  even-mirror = carry (λ z. z) (k * (s + s)) (omega (arith, rows, bounds)) (both-left (mirrored (λ z. z) m [] (row (k * (s + s)))) _ here)
 
   pub odd-mirror : tm64 (suc (k + k) * s) (m + m - suc n) ≡ negℤ (tm64 (suc (k + k) * s) n)
   unfolding size
-  odd-mirror = carry negℤ (suc (k + k) * s) (omega (arith, rows, s-small)) (both-right (mirrored (λ z. z) m [] (row (k * (s + s)))) _ here)
+  odd-mirror = carry negℤ (suc (k + k) * s) (omega (arith, rows, bounds)) (both-right (mirrored (λ z. z) m [] (row (k * (s + s)))) _ here)
+
+-- ---- document 01's tables have the property that request Ten asks of a table
+of-size : (N : ℕ) → N * (64 / N) ≡ 64 → Mirrored N (tm N)
+unfolding tm64
+of-size N whole =
+    record {
+      even =
+          λ m s k n e p hk hn.
+          let r : k * (s + s) * (64 / N) ≡ k * (s * (64 / N) + s * (64 / N)) = omega arith in rw r (even-mirror m (s * (64 / N)) (half m s e) k n hk hn);
+      odd =
+          λ m s k n e p hk hn.
+          let r : suc (k + k) * s * (64 / N) ≡ suc (k + k) * (s * (64 / N)) = omega arith in rw r (odd-mirror m (s * (64 / N)) (half m s e) k n hk hn);
+      two = λ e. subst (λ (N : ℕ). (tm N 0 1 ≡ tm N 0 0) × ((tm N 1 0 ≡ tm N 0 0) × (tm N 1 1 ≡ negℤ (tm N 0 0)))) (sym e) (refl, (refl, refl));
+    }
+  where
+    half : (m s : ℕ) → (m + m) * s ≡ N → m * (s * (64 / N)) ≡ 32
+    half m s e = let h : (m + m) * s * (64 / N) ≡ 64 = rw e whole in omega arith
+
+pub tm-mirrored : (l : ℕ) → l ≤ 6 → Mirrored (2 ^ l) (tm (2 ^ l))
+tm-mirrored l h = of-size (2 ^ l) (eqb→eq _ _ (below-at (λ l. eqb (2 ^ l * (64 / 2 ^ l)) 64) 7 tt l (omega arith)))

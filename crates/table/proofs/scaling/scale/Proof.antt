@@ -44,7 +44,7 @@ all-right = tt
 
 returns : tie.Need-returns
 unfolding scaleReply
-returns c = rw (lt-ltb 63 _ (c .if1 .taken))
+returns c = rw (lt-ltb 63 (c .before .args .qp) (omega arith))
 
 cast-t8 : tie.Need-cast-t8
 cast-t8 c = search needs
