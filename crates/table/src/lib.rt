@@ -4,4 +4,5 @@ mod tm;
 mod whole;
 
 pub use scaling::scale;
+pub use tm::TM;
 pub use whole::table;

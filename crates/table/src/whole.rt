@@ -1,4 +1,4 @@
-// The table of document 01, "The transform tables": the Rust's `EVC_TBL_TM64`, row after row in one array.
+// The table of document 01, "The transform tables": the Rust's `evc_tbl_tm64`, row after row in one array.
 ghost use mathlib.Core.Path.{_≡_};
 ghost use Rattle.table.specs.Flat.{flat};
 use super::tm::TM;

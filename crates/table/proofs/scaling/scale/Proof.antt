@@ -1,6 +1,6 @@
 -- `table::scale` meets its contract: the arms of the `match` give the number of qp % 6, and one test over the 64 values of qp shows that the
 -- shift of a number's bits is the scale. Assumes nothing.
-use mathlib.Core.Path.{_≡_, refl, sym, ap, _∙_}
+use mathlib.Core.Path.{_≡_, ap}
 use mathlib.Core.Bool.{Bool}
 use mathlib.Core.Logic.{⊎-elim}
 use Prim.Native.Nat.{ℕ, _*_, _/_, _%_, _^_}
@@ -13,7 +13,7 @@ use mir.Syntax.{w32}
 use mir.Val.{toZ}
 use Rattle.integers.proofs.Every.{below, below-at, eqZ, eqZ→eq}
 use Rattle.evc.specs.Dequantizer.{scaleNumbers, scale, scaleReply}
-use Rattle.evc.specs.Answers.{Reply, value}
+use Rattle.evc.specs.Answers.{value}
 use Rattle.table.proofs.scaling.scale.Statement.{statement}
 use Rattle.table.proofs.scaling.scale.Tie as tie
 use Rattle.table.proofs.scaling.scale.Lts as lts
@@ -23,15 +23,19 @@ use Rattle.table.proofs.scaling.scale.Reads as reads
 number : ℕ → ℕ
 number r = getD scaleNumbers r 0
 
+arm : (j r : ℕ) {n : ℕ} → n ≡ number j → r ≡ j → n ≡ number r
+arm j r p e = rw e p
+
 chosen : (c : lts.At-match-came reads.Pre reads.Post) → c .match .number ≡ number (c .before .before .args .qp % 6)
 unfolding number
 chosen c =
-    ⊎-elim (λ w. w .1 ∙ ap number (sym (w .0 .keys1)))
-    (⊎-elim (λ w. w .1 ∙ ap number (sym (w .0 .keys2)))
-    (⊎-elim (λ w. w .1 ∙ ap number (sym (w .0 .keys3)))
-    (⊎-elim (λ w. w .1 ∙ ap number (sym (w .0 .keys4)))
-    (⊎-elim (λ w. w .1 ∙ ap number (sym (w .0 .keys5)))
-    (λ w. let e : 5 ≡ c .before .before .args .qp % 6 = omega arith in w .1 ∙ ap number e)))))
+    let r = c .before .before .args .qp % 6 in
+    ⊎-elim (λ w. arm 0 r (w .1) (w .0 .keys1))
+    (⊎-elim (λ w. arm 1 r (w .1) (w .0 .keys2))
+    (⊎-elim (λ w. arm 2 r (w .1) (w .0 .keys3))
+    (⊎-elim (λ w. arm 3 r (w .1) (w .0 .keys4))
+    (⊎-elim (λ w. arm 4 r (w .1) (w .0 .keys5))
+    (λ w. arm 5 r (w .1) (omega arith))))))
     (c .match .came)
 
 -- the bits of the code's product, as they are read, are the scale
