@@ -1,13 +1,14 @@
 -- Laws of `minZ`, `maxZ` and `clip`: by what their tests say, as code leaves them; by facts of order; the range; a clip as a minimum of a
 -- maximum, as fast code clips; and that a clip to a type's range changes nothing where the number fits. Assumes nothing.
 use mathlib.Core.Path.{_≡_, refl, sym, ap, _∙_}
-use mathlib.Core.Bool.{Bool, true, false, cond}
+use mathlib.Core.Bool.{Bool, true, false}
 use native.Mathlib.Omega.{arith}
 use lib.Dec.{T}
-use lib.IntN.{ℤ, pos, negsuc, negℤ}
-use lib.Signed.{_≤ℤ_, _<ℤ_, ltZ, ltZ-yes, ≤ℤ-refl, clashℤ}
+use lib.IntN.{ℤ, pos, negsuc}
+use lib.Signed.{_≤ℤ_, ltZ, ltZ-yes, leZ-yes, ≤ℤ-refl, clashℤ}
 use mir.Syntax.{Width, w16, w32}
 use mir.Val.{SFits}
+use mir.Facts.{sfits-lit}
 use Rattle.integers.specs.Z.{minZ, maxZ, clip, clip16, clip32}
 use Rattle.integers.proofs.Bits.{lt-held, lt-failed}
 use Rattle.integers.proofs.Order.{nat-≤, sfits-parts, between-sfits, ≤ℤ-antisym, <ℤ-≤ℤ}
@@ -42,13 +43,13 @@ module _ (a b : ℤ) where
       go false e = rw e (≤ℤ-antisym h (lt-failed a b e))
 
 module _ (lo hi x : ℤ) where
-  pub clip-lo : ltZ x lo ≡ true → lo ≡ clip lo hi x
+  clip-lo : ltZ x lo ≡ true → lo ≡ clip lo hi x
   clip-lo e = rw e
 
-  pub clip-hi : ltZ x lo ≡ false → ltZ hi x ≡ true → hi ≡ clip lo hi x
+  clip-hi : ltZ x lo ≡ false → ltZ hi x ≡ true → hi ≡ clip lo hi x
   clip-hi e f = rw (e, f)
 
-  pub clip-in : ltZ x lo ≡ false → ltZ hi x ≡ false → x ≡ clip lo hi x
+  clip-in : ltZ x lo ≡ false → ltZ hi x ≡ false → x ≡ clip lo hi x
   clip-in e f = rw (e, f)
 
   -- what lies between the ends is not changed
@@ -78,6 +79,13 @@ module _ (lo hi x : ℤ) where
 -- what is clipped fits where both ends do
 pub clip-fits : (w : Width) (lo hi x : ℤ) → SFits w lo → SFits w hi → lo ≤ℤ hi → SFits w (clip lo hi x)
 clip-fits w lo hi x a b h = between-sfits w lo hi (clip lo hi x) a b (clip-above lo hi x h) (clip-below lo hi x h)
+
+-- to a type's range: it fits the type, and nothing changes where the number does
+pub clip16-fits : (z : ℤ) → SFits w16 (clip16 z)
+clip16-fits z = clip-fits w16 (negsuc 32767) (pos 32767) z (sfits-lit tt) (sfits-lit tt) (leZ-yes tt)
+
+pub clip32-fits : (z : ℤ) → SFits w32 (clip32 z)
+clip32-fits z = clip-fits w32 (negsuc 2147483647) (pos 2147483647) z (sfits-lit tt) (sfits-lit tt) (leZ-yes tt)
 
 pub clip16-id : (z : ℤ) → SFits w16 z → clip16 z ≡ z
 clip16-id z h = let p = sfits-parts h in clip-id (negsuc 32767) (pos 32767) z (nat-≤ (omega arith)) (nat-≤ (omega arith))

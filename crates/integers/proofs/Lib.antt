@@ -14,3 +14,6 @@ pub mod Written
 pub mod Loop
 -- tests that antt computes
 pub mod Every
+-- straight-line machine code, and identities of whole numbers, by reflection
+pub mod Expr
+pub mod Poly

@@ -1,0 +1,38 @@
+-- `integers::clip32` meets its contract: a clip is the minimum of a maximum, and what is clipped fits. Assumes nothing.
+use borrow.Author.Needs.{needs}
+use mathlib.Core.Path.{_≡_, sym, ap, _∙_, subst}
+use lib.IntN.{pos, negsuc}
+use lib.Signed.{leZ-yes}
+use mir.Syntax.{w32, w64}
+use mir.Val.{SFits}
+use mir.Facts.{toZ-ofZ}
+use Rattle.integers.specs.Z.{minZ, clip32}
+use Rattle.integers.proofs.Bits.{back}
+use Rattle.integers.proofs.Clip.{clip-minmax, clip32-fits}
+use Rattle.integers.proofs.clip32.Statement.{statement}
+use Rattle.integers.proofs.clip32.Tie as tie
+
+max-i64-requires : tie.Need-max-i64-requires
+max-i64-requires c κs = search needs
+
+min-i64-requires : tie.Need-min-i64-requires
+min-i64-requires c κs = search needs
+
+clipped : (c : tie.After-min-i64) → c .min-i64 .result ≡ clip32 (c .before .before .args .x)
+clipped c =
+    let f = c .before .before .fits .x in
+    let g : SFits w64 (c .before .max-i64 .result) = record { sfits = c .before .max-i64 .ok } in
+    simp toZ-ofZ at (c .min-i64 .ensures) ∙ ap (minZ (pos 2147483647)) (simp toZ-ofZ at (c .before .max-i64 .ensures))
+    ∙ clip-minmax (negsuc 2147483647) (pos 2147483647) (c .before .before .args .x) (leZ-yes tt)
+
+fits : (c : tie.After-min-i64) → SFits w32 (c .min-i64 .result)
+fits c = subst (SFits w32) (sym (clipped c)) (clip32-fits (c .before .before .args .x))
+
+cast-result : tie.Need-cast-result
+cast-result c = rw (back w64 (c .min-i64 .result) (c .min-i64 .ok)) (fits c)
+
+returns : tie.Need-returns
+returns c = rw (back w64 (c .min-i64 .result) (c .min-i64 .ok)) (toZ-ofZ (fits c) ∙ clipped c)
+
+pub clip32-spec : {M : Type 1} → statement M
+clip32-spec = tie.close (tie.spec max-i64-requires min-i64-requires cast-result returns)
