@@ -12,6 +12,7 @@ use Rattle.evc.specs.Dequantizer.{dequantized, dquantTests, dquantNumber, dquan
 use Rattle.evc.proofs.Tests.{unbroken, first-none}
 use Rattle.dquant.proofs.Laws.{tested}
 
+-- what an accepted call has been tested for
 pub record Bounds (n logw logh shift : ℕ) : Type 0 where
   pub width : logw ≤ 6
   pub height : logh ≤ 6

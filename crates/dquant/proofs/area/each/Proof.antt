@@ -50,12 +50,12 @@ loop-again : tie.Need-loop-again Inv-loop μ-loop
 loop-again c =
     let a = c .before .before .before .before .args in
     let l = c .before .before .before .loop in
-    let was = written-read (l .i) _ (a .area .now) (l .area) (l .i) (pos 0) (omega arith) (omega arith) (l .inv .1 .1) in
-    let now-is =
-    back w16 (c .one .result) (c .one .ok) ∙ c .one .ensures
-    ∙ ap (dequantized (toZ w32 (ofZ w32 (a .scale))) (toZ w32 (ofZ w32 (a .offset))) (a .shift))
-    (back w16 (getD (l .area) (l .i) (pos 0)) (c .before .one-arg .given) ∙ was) in
-    (omega arith, (simp length-set (omega arith), written-step (l .i) _ (a .area .now) (l .area) _ (omega arith) (l .inv .1 .1) now-is))
+    -- what is read at i is the entry's, and what is stored there is that dequantized
+    let old = written-read (l .i) _ (a .area .now) (l .area) (l .i) (pos 0) (omega arith) (omega arith) (l .inv .1 .1) in
+    let read = back w16 (getD (l .area) (l .i) (pos 0)) (c .before .one-arg .given) ∙ old in
+    let f = dequantized (toZ w32 (ofZ w32 (a .scale))) (toZ w32 (ofZ w32 (a .offset))) (a .shift) in
+    let new = back w16 (c .one .result) (c .one .ok) ∙ c .one .ensures ∙ ap f read in
+    (omega arith, (simp length-set (omega arith), written-step (l .i) _ (a .area .now) (l .area) _ (omega arith) (l .inv .1 .1) new))
 
 same-length : tie.Need-same-length Inv-loop μ-loop
 same-length c = omega arith
