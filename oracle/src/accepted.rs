@@ -259,7 +259,7 @@ fn plane(r: &mut Random, (left, right): (usize, usize), (top, bottom): (usize, u
     let mut stride = width + r.some(20);
     let over = over(r);
     let length = (height - 1) * stride + width + over;
-    if height == 1 && r.one_in(4) {
+    if height == 1 && r.one_in(2) {
         let huge = r.huge();
         stride = r.pick(&[huge, usize::MAX, isize::MAX as usize, isize::MAX as usize + 1]);
     }

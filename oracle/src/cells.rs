@@ -18,6 +18,7 @@ pub struct Beyond {
 }
 
 pub struct Cells {
+    entries: Vec<Entry>,
     shapes: HashMap<Entry, Vec<Shape>>,
     /// accepted cases by entry point, place in `shapes` and depth
     sized: HashMap<(Entry, usize, u8), u64>,
@@ -39,9 +40,10 @@ pub fn components(entry: Entry, number: u8) -> Vec<Option<u8>> {
 }
 
 impl Cells {
-    pub fn new() -> Cells {
+    pub fn new(entries: &[Entry]) -> Cells {
         Cells {
-            shapes: ENTRIES.iter().map(|&e| (e, shapes(e))).collect(),
+            entries: entries.to_vec(),
+            shapes: entries.iter().map(|&e| (e, shapes(e))).collect(),
             sized: HashMap::new(),
             refused: HashMap::new(),
             valued: HashMap::new(),
@@ -108,7 +110,7 @@ impl Cells {
     fn print_depths(&self, accepted: u64, empty: &mut Vec<String>, cells: &mut usize) {
         println!("\nAccepted cases, by depth (for the transform: by the build of the Rust), and the least and most in one cell of a size and a depth");
         println!("{:<11} {:>8} {:>6} {}  {:>6} {:>6} {:>6}", "", "cases", "sizes", depths_heading(), "cells", "least", "most");
-        for e in ENTRIES {
+        for &e in &self.entries {
             let n = self.shapes[&e].len();
             let all = self.count_accepted(e);
             let counts = (0..n).flat_map(|s| (8..=14).map(move |d| (s, d))).map(|(s, d)| (s, d, self.at(e, s, d)));
@@ -128,7 +130,7 @@ impl Cells {
 
     fn print_sizes(&self) {
         println!("\nAccepted cases, by size. Columns: the first size argument (width, log of it, log of a stage's size); rows: the second");
-        for e in ENTRIES {
+        for &e in &self.entries {
             let shapes = &self.shapes[&e];
             let wide = shapes.len() > 500;
             let flags: Vec<u8> = if e == Entry::SubBlock { (0..8).collect() } else { vec![0] };
@@ -156,7 +158,7 @@ impl Cells {
     fn print_refusals(&self, refused: u64, empty: &mut Vec<String>, cells: &mut usize) {
         println!("\nRefused cases, by number (a sub-block's by component Y/U/V); '-': document 01 has no such test there");
         println!("{:<11} {:>20} {:>20} {:>20} {:>8} {:>20} {:>13} {:>8}", "", "1 SIZE", "2 QP", "3 SHIFT", "4 DEPTH", "5 AREA", "6 OVERLAP", "7 SAMPLE");
-        for e in ENTRIES {
+        for &e in &self.entries {
             let mut line = format!("{:<11}", e.name());
             for number in 1..=7 {
                 let text = if e.numbers().contains(&number) {
@@ -186,7 +188,7 @@ impl Cells {
         for (e, name, top) in [
             (Dquant, "shift", 31), (Itxb1, "shift", 31), (Job, "shift", 31), (Job, "stage shift", 31), (Job, "qp", 63), (SubBlock, "shift", 31),
             (SubBlock, "stage shift", 31), (SubBlock, "qp", 63),
-        ] {
+        ].into_iter().filter(|v| self.entries.contains(&v.0)) {
             let count = |v: u8| self.valued.get(&(e, name, v)).copied().unwrap_or(0);
             println!("{:<11} {name:<12} {:>8}", e.name(), (0..=top).map(count).min().unwrap_or(0));
             *cells += top as usize + 1;
@@ -196,7 +198,7 @@ impl Cells {
 
     fn print_edges(&self, empty: &mut Vec<String>, cells: &mut usize) {
         println!("\nEdge inputs (cases)");
-        for e in ENTRIES {
+        for &e in &self.entries {
             let list: Vec<String> = edges::required(e)
                 .into_iter()
                 .map(|name| {
@@ -215,7 +217,7 @@ impl Cells {
     /// Where document 01 refuses: what the Rust trapped on and what it answered.
     pub fn print_beyond(&self) {
         println!("\nWhat the Rust did where document 01 refuses (run on a copy): trapped (of those with part of a buffer written) / answered / not run");
-        for e in ENTRIES {
+        for &e in &self.entries {
             for &number in e.numbers() {
                 let b = self.beyond.get(&(e, number)).cloned().unwrap_or_default();
                 let sum = |m: &HashMap<&str, u64>| m.values().sum::<u64>();

@@ -28,9 +28,13 @@ pub fn required(entry: Entry) -> Vec<&'static str> {
     }
     if matches!(entry, Diff | Satd | Ssd16b | Ssd16i | Sad16b | SadBi16b | Sad16i) {
         all.extend([
-            "one column past", "one row past", "plane's side 16,384", "plane's side 16,385", "stride above 2^63, one row", "stride wraps",
-            "stride below the width", "unread sample too large",
+            "one column past", "one row past", "plane's side 16,384", "plane's side 16,385", "stride wraps", "stride below the width",
+            "unread sample too large",
         ]);
+        // SATD's blocks have two rows at least
+        if entry != Satd {
+            all.push("stride above 2^63, one row");
+        }
     }
     if matches!(entry, SadBi16b | SadBi16i) {
         all.extend(["bi -16,384", "bi -16,385", "bi 32,767"]);
@@ -95,7 +99,7 @@ pub fn of(call: &Call, number: u8, broken: &[Broken]) -> Vec<&'static str> {
             mark("offset highest", number == 0 && job.offset == i32::MAX);
             ends(coef, &mut mark);
         }
-        Call::SubBlock { coef, log2_w, log2_h, offset, parts, .. } => {
+        Call::SubBlock { coef, log2_w, log2_h, offset, dq_shift, parts, .. } => {
             let chroma = parts[1].flag || parts[2].flag;
             let flagged: Vec<(usize, usize)> = (0..3)
                 .filter(|&c| parts[c].flag)
@@ -112,7 +116,7 @@ pub fn of(call: &Call, number: u8, broken: &[Broken]) -> Vec<&'static str> {
             mark("offset highest", number == 0 && *offset == i32::MAX);
             mark("luma log 7, chroma alone", number == 0 && chroma && (*log2_w == 7 || *log2_h == 7));
             mark("luma log 0 or 1 with chroma", number == 1 && chroma && (*log2_w < 2 || *log2_h < 2));
-            mark("no flag, all else wrong", number == 0 && flagged.is_empty() && *log2_w > NEAR && parts.iter().all(|p| p.qp > 63));
+            mark("no flag, all else wrong", number == 0 && flagged.is_empty() && *log2_w > 7 && *dq_shift > 31);
             let pairs = || flagged.iter().enumerate().flat_map(|(k, a)| flagged[k + 1..].iter().map(move |b| if a.0 <= b.0 { (*a, *b) } else { (*b, *a) }));
             mark("components touch", number == 0 && pairs().any(|(a, b)| a.0 + a.1 == b.0));
             mark("components share one sample", number == 6 && pairs().any(|(a, b)| a.0 + a.1 == b.0 + 1));

@@ -246,7 +246,7 @@ fn outside(s: &mut Source, w: usize, h: usize, r: &mut Random) {
     match s {
         Source::Packed(v) => cut(r, v, (w * h).max(1)),
         Source::Bi(v) => cut(r, v, (w * h).max(1)),
-        Source::Inside { plane, x, y } => match r.below(10) {
+        Source::Inside { plane, x, y } => match r.below(12) {
             0 | 1 => *x = plane.width.saturating_add(1).saturating_sub(w),
             2 | 3 => *y = plane.height.saturating_add(1).saturating_sub(h),
             4 => *x = r.pick(&[huge, (usize::MAX - w).saturating_add(1)]),
@@ -254,7 +254,7 @@ fn outside(s: &mut Source, w: usize, h: usize, r: &mut Random) {
             6 => (*x, *y) = (wraps(w, r), wraps(h, r)),
             _ => no_plane(plane, r),
         },
-        Source::Edges { plane, x, y } => match r.below(10) {
+        Source::Edges { plane, x, y } => match r.below(12) {
             0 | 1 => *x = past(plane.width, w),
             2 | 3 => *y = past(plane.height, h),
             4 => *x = r.pick(&[i16::MAX, 16384, 16383]),
@@ -271,7 +271,7 @@ fn past(side: usize, n: usize) -> i16 {
 
 fn no_plane(p: &mut Plane, r: &mut Random) {
     let huge = r.huge();
-    match r.below(9) {
+    match r.below(11) {
         0 | 1 => {
             let need = (p.height as u128).saturating_sub(1) * p.stride as u128 + p.width as u128;
             if need <= p.samples.len() as u128 {
@@ -281,13 +281,13 @@ fn no_plane(p: &mut Plane, r: &mut Random) {
         2 => p.samples.clear(),
         3 => p.stride = p.width.saturating_sub(1),
         4 => p.stride = r.below(p.width.max(1)),
-        5 if p.height > 1 => {
+        5 | 6 if p.height > 1 => {
             // the product with the rows wraps to something small
             let rows = p.height - 1;
             p.stride = r.pick(&[huge, usize::MAX, (usize::MAX / rows).saturating_add(1), 1 << 63])
         }
-        6 => p.width = r.pick(&[0, huge, 16385]),
-        7 => p.height = r.pick(&[0, huge, 16385]),
+        7 => p.width = r.pick(&[0, huge, 16385]),
+        8 => p.height = r.pick(&[0, huge, 16385]),
         _ => {
             // one past the largest side, and all else right
             if r.one_in(2) && p.height <= 16 || p.width > 8 {

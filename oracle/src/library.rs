@@ -94,11 +94,13 @@ impl Library {
             Call::SubBlock { coef, log2_w, log2_h, offset, dq_shift, it_shift, parts: [y, u, v] } => {
                 let c = self.first.lend(coef, p);
                 let was = 3 + (r.next() % 253) as u8; // no component's number
+                let mut flag = |p: &Part| if p.flag { r.pick(&[1, 1, 1, 2, 128, 255]) } else { 0 }; // any number but 0 is set
+                let (flag_y, flag_u, flag_v) = (flag(y), flag(u), flag(v));
                 let component = self.value.lend(&[was], Place::BeforeFence);
                 outcome.number = unsafe {
                     tv_sub_block(
-                        c.at, c.length, *log2_w, *log2_h, *offset, *dq_shift, *it_shift, y.flag as u8, u.flag as u8, v.flag as u8, y.start, u.start,
-                        v.start, y.qp, u.qp, v.qp, component.at,
+                        c.at, c.length, *log2_w, *log2_h, *offset, *dq_shift, *it_shift, flag_y, flag_u, flag_v, y.start, u.start, v.start,
+                        y.qp, u.qp, v.qp, component.at,
                     )
                 };
                 outcome.left = written(&c, Left::Short, &mut damage);
