@@ -86,9 +86,17 @@ pub struct Plane {
 #[derive(Clone, PartialEq, Debug)]
 pub enum Source {
     /// part of a plane
-    Inside { plane: Plane, x: usize, y: usize },
+    Inside {
+        plane: Plane,
+        x: usize,
+        y: usize,
+    },
     /// part of a plane, from a signed position: what is negative reads as 0
-    Edges { plane: Plane, x: i16, y: i16 },
+    Edges {
+        plane: Plane,
+        x: i16,
+        y: i16,
+    },
     Packed(Vec<u16>),
     Bi(Vec<i16>),
 }
@@ -108,12 +116,41 @@ pub struct Compare {
 
 #[derive(Clone, PartialEq, Debug)]
 pub enum Call {
-    Dquant { coef: Vec<i16>, log2_w: usize, log2_h: usize, scale: i32, offset: i32, shift: u8 },
-    Itxb0 { src: Vec<i16>, dst: Vec<i32>, log2_size: usize, log2_line: usize },
-    Itxb1 { src: Vec<i32>, dst: Vec<i16>, log2_size: usize, log2_line: usize, shift: u8 },
-    Job { coef: Vec<i16>, job: BlockJob },
+    Dquant {
+        coef: Vec<i16>,
+        log2_w: usize,
+        log2_h: usize,
+        scale: i32,
+        offset: i32,
+        shift: u8,
+    },
+    Itxb0 {
+        src: Vec<i16>,
+        dst: Vec<i32>,
+        log2_size: usize,
+        log2_line: usize,
+    },
+    Itxb1 {
+        src: Vec<i32>,
+        dst: Vec<i16>,
+        log2_size: usize,
+        log2_line: usize,
+        shift: u8,
+    },
+    Job {
+        coef: Vec<i16>,
+        job: BlockJob,
+    },
     /// logs are luma's
-    SubBlock { coef: Vec<i16>, log2_w: usize, log2_h: usize, offset: i32, dq_shift: u8, it_shift: u8, parts: [Part; 3] },
+    SubBlock {
+        coef: Vec<i16>,
+        log2_w: usize,
+        log2_h: usize,
+        offset: i32,
+        dq_shift: u8,
+        it_shift: u8,
+        parts: [Part; 3],
+    },
     Compare(Compare),
 }
 

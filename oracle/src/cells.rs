@@ -108,7 +108,9 @@ impl Cells {
     }
 
     fn print_depths(&self, accepted: u64, empty: &mut Vec<String>, cells: &mut usize) {
-        println!("\nAccepted cases, by depth (for the transform: by the build of the Rust), and the least and most in one cell of a size and a depth");
+        println!(
+            "\nAccepted cases, by depth (for the transform: by the build of the Rust), and the least and most in one cell of a size and a depth"
+        );
         println!("{:<11} {:>8} {:>6} {}  {:>6} {:>6} {:>6}", "", "cases", "sizes", depths_heading(), "cells", "least", "most");
         for &e in &self.entries {
             let n = self.shapes[&e].len();
@@ -135,7 +137,11 @@ impl Cells {
             let wide = shapes.len() > 500;
             let flags: Vec<u8> = if e == Entry::SubBlock { (0..8).collect() } else { vec![0] };
             for f in flags {
-                let title = if e == Entry::SubBlock { format!("{}, flags{}", e.name(), ["", " Y", " U", " Y U", " V", " Y V", " U V", " Y U V"][f as usize]) } else { e.name().to_string() };
+                let title = if e == Entry::SubBlock {
+                    format!("{}, flags{}", e.name(), ["", " Y", " U", " Y U", " V", " Y V", " U V", " Y U V"][f as usize])
+                } else {
+                    e.name().to_string()
+                };
                 // of SATD and SAD each column stands for eight sides, and what is printed is the least count of one size among them
                 let band = |v: usize| if wide { (v - 1) / 8 } else { v };
                 let mut grid: std::collections::BTreeMap<(usize, usize), u64> = Default::default();
@@ -149,7 +155,11 @@ impl Cells {
                 println!("  {title}{}", if wide { " (least count of one size in each band of eight by eight)" } else { "" });
                 println!("    {:>7}{}", "", columns.iter().map(|&c| format!("{:>8}", label(c))).collect::<String>());
                 for row in rows {
-                    println!("    {:>7}{}", label(row), columns.iter().map(|&c| format!("{:>8}", grid.get(&(row, c)).copied().unwrap_or(0))).collect::<String>());
+                    println!(
+                        "    {:>7}{}",
+                        label(row),
+                        columns.iter().map(|&c| format!("{:>8}", grid.get(&(row, c)).copied().unwrap_or(0))).collect::<String>()
+                    );
                 }
             }
         }
@@ -157,7 +167,10 @@ impl Cells {
 
     fn print_refusals(&self, refused: u64, empty: &mut Vec<String>, cells: &mut usize) {
         println!("\nRefused cases, by number (a sub-block's by component Y/U/V); '-': document 01 has no such test there");
-        println!("{:<11} {:>20} {:>20} {:>20} {:>8} {:>20} {:>13} {:>8}", "", "1 SIZE", "2 QP", "3 SHIFT", "4 DEPTH", "5 AREA", "6 OVERLAP", "7 SAMPLE");
+        println!(
+            "{:<11} {:>20} {:>20} {:>20} {:>8} {:>20} {:>13} {:>8}",
+            "", "1 SIZE", "2 QP", "3 SHIFT", "4 DEPTH", "5 AREA", "6 OVERLAP", "7 SAMPLE"
+        );
         for &e in &self.entries {
             let mut line = format!("{:<11}", e.name());
             for number in 1..=7 {
@@ -186,9 +199,18 @@ impl Cells {
         println!("\nAccepted cases by shift (0..31) and qp (0..63): the least count of one value");
         use Entry::*;
         for (e, name, top) in [
-            (Dquant, "shift", 31), (Itxb1, "shift", 31), (Job, "shift", 31), (Job, "stage shift", 31), (Job, "qp", 63), (SubBlock, "shift", 31),
-            (SubBlock, "stage shift", 31), (SubBlock, "qp", 63),
-        ].into_iter().filter(|v| self.entries.contains(&v.0)) {
+            (Dquant, "shift", 31),
+            (Itxb1, "shift", 31),
+            (Job, "shift", 31),
+            (Job, "stage shift", 31),
+            (Job, "qp", 63),
+            (SubBlock, "shift", 31),
+            (SubBlock, "stage shift", 31),
+            (SubBlock, "qp", 63),
+        ]
+        .into_iter()
+        .filter(|v| self.entries.contains(&v.0))
+        {
             let count = |v: u8| self.valued.get(&(e, name, v)).copied().unwrap_or(0);
             println!("{:<11} {name:<12} {:>8}", e.name(), (0..=top).map(count).min().unwrap_or(0));
             *cells += top as usize + 1;
@@ -216,7 +238,9 @@ impl Cells {
 
     /// Where document 01 refuses: what the Rust trapped on and what it answered.
     pub fn print_beyond(&self) {
-        println!("\nWhat the Rust did where document 01 refuses (run on a copy): trapped (of those with part of a buffer written) / answered / not run");
+        println!(
+            "\nWhat the Rust did where document 01 refuses (run on a copy): trapped (of those with part of a buffer written) / answered / not run"
+        );
         for &e in &self.entries {
             for &number in e.numbers() {
                 let b = self.beyond.get(&(e, number)).cloned().unwrap_or_default();
@@ -225,7 +249,12 @@ impl Cells {
                 why.sort();
                 println!(
                     "{:<11} {number}: {:>7} ({}) / {:>7} / {:>7}   {}",
-                    e.name(), sum(&b.trapped), b.half_done, b.answered, sum(&b.not_run), why.join("; ")
+                    e.name(),
+                    sum(&b.trapped),
+                    b.half_done,
+                    b.answered,
+                    sum(&b.not_run),
+                    why.join("; ")
                 );
             }
         }

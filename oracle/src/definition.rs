@@ -67,7 +67,11 @@ pub fn result(call: &Call, twist: Twist) -> (Option<i64>, Left) {
 /// A quotient by 2^shift, rounded toward minus infinity.
 fn quotient(n: i64, shift: u8, twist: Twist) -> i64 {
     let d = 1i64 << shift;
-    if twist == Twist::TowardZero { n / d } else { n.div_euclid(d) }
+    if twist == Twist::TowardZero {
+        n / d
+    } else {
+        n.div_euclid(d)
+    }
 }
 
 fn clip(v: i64, bits: u32) -> i64 {
@@ -85,8 +89,8 @@ fn dequantize(area: &mut [i16], scale: i64, offset: i32, shift: u8, twist: Twist
 }
 
 const C: [i32; 63] = [
-    90, 90, 90, 90, 90, 90, 89, 89, 88, 88, 87, 87, 86, 85, 84, 84, 83, 82, 81, 80, 79, 78, 76, 75, 74, 73, 71, 70, 69, 67, 66, 64, 62, 61, 59, 57, 56,
-    54, 52, 50, 48, 47, 45, 43, 41, 39, 37, 35, 33, 30, 28, 26, 24, 22, 20, 18, 15, 13, 11, 9, 7, 4, 2,
+    90, 90, 90, 90, 90, 90, 89, 89, 88, 88, 87, 87, 86, 85, 84, 84, 83, 82, 81, 80, 79, 78, 76, 75, 74, 73, 71, 70, 69, 67, 66, 64, 62, 61, 59, 57,
+    56, 54, 52, 50, 48, 47, 45, 43, 41, 39, 37, 35, 33, 30, 28, 26, 24, 22, 20, 18, 15, 13, 11, 9, 7, 4, 2,
 ];
 
 /// Row k, column n of size 64.
@@ -195,7 +199,13 @@ fn read(s: &Source, w: usize, h: usize, twist: Twist) -> Vec<i64> {
 }
 
 fn satd(d: &[i64], w: usize, h: usize, twist: Twist) -> i64 {
-    let side = if w % 8 == 0 && h % 8 == 0 { 8 } else if w % 4 == 0 && h % 4 == 0 { 4 } else { 2 };
+    let side = if w % 8 == 0 && h % 8 == 0 {
+        8
+    } else if w % 4 == 0 && h % 4 == 0 {
+        4
+    } else {
+        2
+    };
     let mut total = 0;
     for v in (0..h).step_by(side) {
         for u in (0..w).step_by(side) {

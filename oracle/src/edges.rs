@@ -15,8 +15,17 @@ pub fn required(entry: Entry) -> Vec<&'static str> {
         Itxb1 => all.extend(["i32 lowest", "i32 highest"]),
         Job => all.extend(["offset lowest", "offset highest", "i16 lowest", "i16 highest", "one sample later", "start near 2^64"]),
         SubBlock => all.extend([
-            "offset lowest", "offset highest", "one sample later", "start near 2^64", "luma log 7, chroma alone", "luma log 0 or 1 with chroma",
-            "components touch", "components share one sample", "an earlier component's higher number", "no flag, all else wrong",
+            "offset lowest",
+            "offset highest",
+            "one sample later",
+            "start near 2^64",
+            "luma log 7, chroma alone",
+            "luma log 0 or 1 with chroma",
+            "components touch",
+            "components share one sample",
+            "two pairs overlap",
+            "an earlier component's higher number",
+            "no flag, all else wrong",
         ]),
         _ => all.extend(["largest sample", "sample 2^depth"]),
     }
@@ -28,7 +37,12 @@ pub fn required(entry: Entry) -> Vec<&'static str> {
     }
     if matches!(entry, Diff | Satd | Ssd16b | Ssd16i | Sad16b | SadBi16b | Sad16i) {
         all.extend([
-            "one column past", "one row past", "plane's side 16,384", "plane's side 16,385", "stride wraps", "stride below the width",
+            "one column past",
+            "one row past",
+            "plane's side 16,384",
+            "plane's side 16,385",
+            "stride wraps",
+            "stride below the width",
             "unread sample too large",
         ]);
         // SATD's blocks have two rows at least
@@ -117,11 +131,16 @@ pub fn of(call: &Call, number: u8, broken: &[Broken]) -> Vec<&'static str> {
             mark("luma log 7, chroma alone", number == 0 && chroma && (*log2_w == 7 || *log2_h == 7));
             mark("luma log 0 or 1 with chroma", number == 1 && chroma && (*log2_w < 2 || *log2_h < 2));
             mark("no flag, all else wrong", number == 0 && flagged.is_empty() && *log2_w > 7 && *dq_shift > 31);
-            let pairs = || flagged.iter().enumerate().flat_map(|(k, a)| flagged[k + 1..].iter().map(move |b| if a.0 <= b.0 { (*a, *b) } else { (*b, *a) }));
+            let pairs =
+                || flagged.iter().enumerate().flat_map(|(k, a)| flagged[k + 1..].iter().map(move |b| if a.0 <= b.0 { (*a, *b) } else { (*b, *a) }));
             mark("components touch", number == 0 && pairs().any(|(a, b)| a.0 + a.1 == b.0));
             mark("components share one sample", number == 6 && pairs().any(|(a, b)| a.0 + a.1 == b.0 + 1));
+            mark("two pairs overlap", number == 6 && broken.iter().any(|b| b.component != broken[0].component));
             let first = broken.first();
-            mark("an earlier component's higher number", first.is_some_and(|f| broken.iter().any(|b| b.number < f.number && b.component > f.component)));
+            mark(
+                "an earlier component's higher number",
+                first.is_some_and(|f| broken.iter().any(|b| b.number < f.number && b.component > f.component)),
+            );
         }
         Call::Compare(c) => compare(c, number, sole, &buffer, &mut mark),
     }
@@ -179,7 +198,11 @@ fn compare(c: &Compare, number: u8, sole: bool, buffer: &dyn Fn(usize, usize) ->
 
 /// Edges of a plane of which a block is read that ends before column `right` and row `bottom`.
 fn in_plane(
-    p: &Plane, number: u8, area_alone: bool, (largest, right, bottom): (u16, usize, usize), buffer: &dyn Fn(usize, usize) -> &'static str,
+    p: &Plane,
+    number: u8,
+    area_alone: bool,
+    (largest, right, bottom): (u16, usize, usize),
+    buffer: &dyn Fn(usize, usize) -> &'static str,
     mark: &mut dyn FnMut(&'static str, bool),
 ) {
     let need = (p.height as u128).saturating_sub(1) * p.stride as u128 + p.width as u128;

@@ -1,52 +1,9 @@
-// The proved library: its exports, and a call of one with every buffer in a room of its own. Whatever a call leaves that its outcome can't say (a
+// The proved library: a call of one of its exports with every buffer in a room of its own. Whatever a call leaves that its outcome can't say (a
 // changed guard zone, a changed input, a value or component written where it must not be) comes back as damage.
 use crate::calls::*;
+use crate::exports::*;
 use crate::random::Random;
 use crate::room::*;
-
-mod exports {
-    // a slice is a pointer and a length
-    extern "C" {
-        pub fn tv_dquant(coef: *mut i16, n: usize, log2_w: usize, log2_h: usize, scale: i32, offset: i32, shift: u8) -> u8;
-        pub fn tv_itxb0(src: *const i16, n: usize, dst: *mut i32, m: usize, log2_size: usize, log2_line: usize) -> u8;
-        pub fn tv_itxb1(src: *const i32, n: usize, dst: *mut i16, m: usize, log2_size: usize, log2_line: usize, shift: u8) -> u8;
-        pub fn tv_job(coef: *mut i16, n: usize, start: usize, log2_w: usize, log2_h: usize, qp: u8, offset: i32, dq_shift: u8, it_shift: u8) -> u8;
-        pub fn tv_sub_block(
-            coef: *mut i16, n: usize, log2_w: usize, log2_h: usize, offset: i32, dq_shift: u8, it_shift: u8, flag_y: u8, flag_u: u8, flag_v: u8,
-            start_y: usize, start_u: usize, start_v: usize, qp_y: u8, qp_u: u8, qp_v: u8, component: *mut u8,
-        ) -> u8;
-        pub fn tv_diff(
-            org: *const u16, n: usize, width: usize, height: usize, stride: usize, x: usize, y: usize, log2_w: usize, log2_h: usize, cur: *const u16,
-            m: usize, depth: u8, diff: *mut i16, k: usize,
-        ) -> u8;
-        pub fn tv_satd(
-            org: *const u16, n: usize, width: usize, height: usize, stride: usize, x: usize, y: usize, w: usize, h: usize, cur: *const u16, m: usize,
-            depth: u8, value: *mut u32,
-        ) -> u8;
-        pub fn tv_ssd_16b(
-            org: *const u16, n: usize, width: usize, height: usize, stride: usize, x: usize, y: usize, log2_w: usize, log2_h: usize, cur: *const u16,
-            m: usize, depth: u8, value: *mut i64,
-        ) -> u8;
-        pub fn tv_ssd_16i(
-            one: *const u16, n: usize, width1: usize, height1: usize, stride1: usize, two: *const u16, m: usize, width2: usize, height2: usize,
-            stride2: usize, x: i16, y: i16, log2_w: usize, log2_h: usize, depth: u8, value: *mut i64,
-        ) -> u8;
-        pub fn tv_sad_16b(
-            org: *const u16, n: usize, width: usize, height: usize, stride: usize, x: usize, y: usize, reference: *const u16, m: usize,
-            ref_width: usize, ref_height: usize, ref_stride: usize, mv_x: i16, mv_y: i16, w: usize, h: usize, depth: u8, value: *mut u32,
-        ) -> u8;
-        pub fn tv_sad_bi_16b(
-            bi: *const i16, n: usize, reference: *const u16, m: usize, ref_width: usize, ref_height: usize, ref_stride: usize, mv_x: i16, mv_y: i16,
-            w: usize, h: usize, depth: u8, value: *mut u32,
-        ) -> u8;
-        pub fn tv_sad_16i(
-            org: *const u16, n: usize, width: usize, height: usize, stride: usize, x: usize, y: usize, w: usize, h: usize, pred: *const u16, m: usize,
-            depth: u8, value: *mut u32,
-        ) -> u8;
-        pub fn tv_sad_bi_16i(bi: *const i16, n: usize, pred: *const u16, m: usize, w: usize, h: usize, depth: u8, value: *mut u32) -> u8;
-    }
-}
-use exports::*;
 
 /// Rooms for a call's first and second buffer, and for its value or component.
 pub struct Library {
@@ -99,8 +56,23 @@ impl Library {
                 let component = self.value.lend(&[was], Place::BeforeFence);
                 outcome.number = unsafe {
                     tv_sub_block(
-                        c.at, c.length, *log2_w, *log2_h, *offset, *dq_shift, *it_shift, flag_y, flag_u, flag_v, y.start, u.start, v.start,
-                        y.qp, u.qp, v.qp, component.at,
+                        c.at,
+                        c.length,
+                        *log2_w,
+                        *log2_h,
+                        *offset,
+                        *dq_shift,
+                        *it_shift,
+                        flag_y,
+                        flag_u,
+                        flag_v,
+                        y.start,
+                        u.start,
+                        v.start,
+                        y.qp,
+                        u.qp,
+                        v.qp,
+                        component.at,
                     )
                 };
                 outcome.left = written(&c, Left::Short, &mut damage);
@@ -108,7 +80,11 @@ impl Library {
             }
             Call::Compare(c) => self.compare(c, [p, q, s], r, &mut outcome, &mut damage),
         }
-        if damage.is_empty() { Ok(outcome) } else { Err(format!("answered {} and {}", outcome.number, damage.join(", "))) }
+        if damage.is_empty() {
+            Ok(outcome)
+        } else {
+            Err(format!("answered {} and {}", outcome.number, damage.join(", ")))
+        }
     }
 
     fn compare(&mut self, c: &Compare, [p, q, s]: [Place; 3], r: &mut Random, outcome: &mut Outcome, damage: &mut Vec<String>) {
@@ -124,9 +100,8 @@ impl Library {
         match (c.entry, &c.a, &c.b) {
             (Entry::Diff, Source::Inside { plane: a, x, y }, Source::Packed(b)) => {
                 let (one, two, d) = (self.first.lend(&a.samples, p), self.second.lend(b, q), self.third.lend(&c.diff, s));
-                outcome.number = unsafe {
-                    tv_diff(one.at, one.length, a.width, a.height, a.stride, *x, *y, w, h, two.at, two.length, depth, d.at, d.length)
-                };
+                outcome.number =
+                    unsafe { tv_diff(one.at, one.length, a.width, a.height, a.stride, *x, *y, w, h, two.at, two.length, depth, d.at, d.length) };
                 only_read(&one, &a.samples, damage);
                 only_read(&two, b, damage);
                 outcome.left = written(&d, Left::Short, damage);
@@ -135,9 +110,8 @@ impl Library {
                 let (one, two) = (self.first.lend(&a.samples, p), self.second.lend(b, q));
                 if entry == Entry::Ssd16b {
                     let long = self.value.lend(&[was as i64], Place::BeforeFence);
-                    let number = unsafe {
-                        tv_ssd_16b(one.at, one.length, a.width, a.height, a.stride, *x, *y, w, h, two.at, two.length, depth, long.at)
-                    };
+                    let number =
+                        unsafe { tv_ssd_16b(one.at, one.length, a.width, a.height, a.stride, *x, *y, w, h, two.at, two.length, depth, long.at) };
                     valued!(number, long, was as i64);
                 } else {
                     let f = if entry == Entry::Satd { tv_satd } else { tv_sad_16i };
@@ -152,7 +126,8 @@ impl Library {
                 let long = self.value.lend(&[was as i64], Place::BeforeFence);
                 let number = unsafe {
                     tv_ssd_16i(
-                        one.at, one.length, a.width, a.height, a.stride, two.at, two.length, b.width, b.height, b.stride, *x, *y, w, h, depth, long.at,
+                        one.at, one.length, a.width, a.height, a.stride, two.at, two.length, b.width, b.height, b.stride, *x, *y, w, h, depth,
+                        long.at,
                     )
                 };
                 valued!(number, long, was as i64);

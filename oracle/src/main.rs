@@ -2,18 +2,22 @@
 //   oracle [COUNT [SEED [ENTRY..]]]
 // The exit status is 0 if and only if nothing differs, no cell is empty and every mutant is caught.
 mod accepted;
+mod blocks;
 mod calls;
 mod cells;
 mod definition;
 mod edges;
 mod expected;
+mod exports;
 mod faults;
 mod library;
+mod limits;
 mod mutants;
 mod random;
 mod refusals;
 mod room;
 mod shim;
+mod wrong_blocks;
 
 use calls::*;
 use cells::Cells;
@@ -61,15 +65,8 @@ fn main() {
     let per_number = LEAST_REFUSED.max(count / 50);
     println!("seed {seed}; at least {count} accepted cases for each entry point and {per_number} refused ones for each of its numbers");
     shim::keep_traps();
-    let mut run = Run {
-        seed,
-        library: Library::new(),
-        cells: Cells::new(&entries),
-        mutants: Mutants::of(&entries),
-        differences: 0,
-        own_calls: 0,
-        compared: 0,
-    };
+    let mut run =
+        Run { seed, library: Library::new(), cells: Cells::new(&entries), mutants: Mutants::of(&entries), differences: 0, own_calls: 0, compared: 0 };
     let tables = expected::tables_agree();
     for &entry in &entries {
         let began = Instant::now();
@@ -179,7 +176,9 @@ impl Run {
     fn report(&self, entries: &[Entry], count: u64, per_number: u64, tables: Result<usize, String>) -> i32 {
         let (mut empty, cells) = self.cells.print(count, per_number);
         self.cells.print_beyond();
-        println!("\nMutants of the expected side: cases that caught each (of those held against it; of twists: where both accept and results differ)");
+        println!(
+            "\nMutants of the expected side: cases that caught each (of those held against it; of twists: where both accept and results differ)"
+        );
         let mut uncaught = Vec::new();
         for m in &self.mutants.0 {
             println!("{:<46} {:<11} {:>8} of {:>8} ({})", m.name, m.entry.name(), m.caught, m.tried, m.by_result);
@@ -198,8 +197,16 @@ impl Run {
         }
         let accepted: u64 = entries.iter().map(|&e| self.cells.count_accepted(e)).sum();
         println!("\nSummary (seed {})", self.seed);
-        println!("  tables      {}", tables.as_ref().map_or_else(|why| format!("DIFFER: {why}"), |n| format!("{n} numbers of tbl.rs are document 01's")));
-        println!("  cases       {} compared: {accepted} accepted, {} refused; {} of 13 entry points", self.compared, self.cells.all_refused(), entries.len());
+        println!(
+            "  tables      {}",
+            tables.as_ref().map_or_else(|why| format!("DIFFER: {why}"), |n| format!("{n} numbers of tbl.rs are document 01's"))
+        );
+        println!(
+            "  cases       {} compared: {accepted} accepted, {} refused; {} of 13 entry points",
+            self.compared,
+            self.cells.all_refused(),
+            entries.len()
+        );
         println!("  own calls   {} sub-blocks were put to the source's own call as well", self.own_calls);
         println!("  cells       {cells}, of which {} empty", empty.len());
         println!("  mutants     {}, of which {} not caught", self.mutants.0.len(), uncaught.len());

@@ -35,12 +35,28 @@ impl Random {
     }
     /// 0 half of the time, else 1..=most
     pub fn some(&mut self, most: usize) -> usize {
-        if self.one_in(2) { 0 } else { 1 + self.below(most) }
+        if self.one_in(2) {
+            0
+        } else {
+            1 + self.below(most)
+        }
     }
     /// a number near the largest usize, or one whose product or sum with a small one wraps to something small
     pub fn huge(&mut self) -> usize {
         let near = usize::MAX - self.below(70);
-        self.pick(&[usize::MAX, usize::MAX - 1, near, near, 1 << 63, (1 << 63) - 1, (1 << 63) + 1, 1 << 62, 1 << 32, (1 << 32) + 1, usize::MAX / 3 + 1])
+        self.pick(&[
+            usize::MAX,
+            usize::MAX - 1,
+            near,
+            near,
+            1 << 63,
+            (1 << 63) - 1,
+            (1 << 63) + 1,
+            1 << 62,
+            1 << 32,
+            (1 << 32) + 1,
+            usize::MAX / 3 + 1,
+        ])
     }
 }
 
@@ -60,7 +76,16 @@ pub fn numbers(r: &mut Random, n: usize, lo: i64, hi: i64) -> Vec<i64> {
             }
             v
         }
-        5 => (0..n).map(|_| { let d = r.within(0, 3); if r.one_in(2) { (lo + d).min(hi) } else { (hi - d).max(lo) } }).collect(),
+        5 => (0..n)
+            .map(|_| {
+                let d = r.within(0, 3);
+                if r.one_in(2) {
+                    (lo + d).min(hi)
+                } else {
+                    (hi - d).max(lo)
+                }
+            })
+            .collect(),
         _ => (0..n).map(|_| r.within(low, high)).collect(),
     }
 }
