@@ -1,14 +1,18 @@
--- Laws of a list of tests: what an accepted call knows, test by test (`unbroken`), and back (`first-none`); laws of a call's reply.
+-- Laws of a list of tests: what an accepted call knows, test by test (`unbroken`), and back (`first-none`); a number between
+-- two limits; laws of a call's reply.
 -- Assumes nothing.
 use Prim.Native.Nat.{ℕ, zero, suc, _≤_}
 use native.Mathlib.Omega.{arith}
-use mathlib.Core.Path.{_≡_, refl, sym, ap, _∙_}
+use mathlib.Core.Path.{_≡_, refl, ap}
 use mathlib.Core.Bool.{Bool, true, false, cond}
-use mathlib.Core.List.{List, [], _∷_, _++_}
+use mathlib.Core.List.{List, [], _∷_}
+use lib.Dec.{ltb}
+use borrow.Author.Tests.{ltb-false, le-ltb}
+use Rattle.order.proofs.Tests.{or-neither}
 use Rattle.evc.specs.declared.Refusal.{Refusal}
 use Rattle.evc.specs.declared.Refusal.the-variants.{Size, Qp, Shift, Depth, Area, Overlap, Sample}
-use Rattle.evc.specs.Answers.{number, Reply, value, refused, replyNumber}
-use Rattle.evc.specs.Tests.{Test, first, reply}
+use Rattle.evc.specs.Answers.{number, value, refused, replyNumber}
+use Rattle.evc.specs.Tests.{Test, first, reply, outside}
 
 -- no test of the list is broken, test by test
 abbrev pub Unbroken : List Test → Type 0
@@ -36,6 +40,13 @@ unbroken (t ∷ ts) e = go (t .broken) refl (unbroken ts) e
 pub first-none : (ts : List Test) → Unbroken ts → first ts ≡ 0
 first-none [] u = refl
 first-none (t ∷ ts) u = rw (u .0) (first-none ts (u .1))
+
+-- ---- a number between two limits
+pub outside-no : (lo hi x : ℕ) → outside lo hi x ≡ false → (lo ≤ x) × (x ≤ hi)
+outside-no lo hi x e = let h = or-neither (ltb x lo) (ltb hi x) e in (ltb-false x lo (h .0), ltb-false hi x (h .1))
+
+pub inside-no : (lo hi x : ℕ) → lo ≤ x → x ≤ hi → outside lo hi x ≡ false
+inside-no lo hi x a b = rw (le-ltb x lo a, le-ltb hi x b)
 
 -- ---- the reply of a call with a value
 pub reply-number : {A : Type 0} (n : ℕ) (v : A) → replyNumber (reply n v) ≡ n
