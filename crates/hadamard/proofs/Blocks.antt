@@ -1,16 +1,14 @@
--- What is known of a block that is handed over by value, an array of arrays: its length, the length of each row, and that each entry fits.
+-- What a block that is handed over by value, an array of arrays, tells of its entries: each fits, past the ends too, where it is 0.
 -- Assumes nothing.
 -- ---- for integers
-use mathlib.Core.Path.{_≡_}
 use mathlib.Core.List.{List, [], _∷_}
 use Prim.Native.Nat.{ℕ, zero, suc, _<_, _^_, _≤_}
-use native.Mathlib.Nat.{not-suc-le-zero, le-of-suc-le-suc}
-use lib.ListN.{length, getD}
+use lib.ListN.{getD}
 use lib.IntN.{ℤ, pos, natAbs}
 use lib.Signed.{mag}
 use lib.Pow.{pow-pos}
 use mir.Syntax.{Width}
-use mir.Val.{Val, SFits, hbits}
+use mir.Val.{Val, hbits}
 use denote.Array.{Array, each, inArray}
 use denote.Shadow.{shadow}
 use denote.Signed.{SInt}
@@ -18,12 +16,6 @@ use Rattle.integers.proofs.Bits.{each-sfits}
 use Rattle.integers.proofs.Bound.{within-sfits}
 
 module _ (w : Width) (n : ℕ) where
-  rows-long : (m : List (List ℤ)) (us : List Val) (j : ℕ) → shadow (each (List ℤ) (Array (SInt w) n .own) m us) → j < length m → length (getD m j []) ≡ n
-  rows-long [] us j p h = absurd (not-suc-le-zero h)
-  rows-long (x ∷ m) [] j p h = absurd p
-  rows-long (x ∷ m) (u ∷ us) zero p h = p .0 .1 .0 .1
-  rows-long (x ∷ m) (u ∷ us) (suc j) p h = rows-long m us j (p .1) (le-of-suc-le-suc h)
-
   entries-fit : (m : List (List ℤ)) (us : List Val) (j i : ℕ) → shadow (each (List ℤ) (Array (SInt w) n .own) m us) → mag (getD (getD m j []) i (pos 0)) < 2 ^ hbits w
   entries-fit [] us j i p = pow-pos (hbits w)
   entries-fit (x ∷ m) [] j i p = absurd p
@@ -31,8 +23,5 @@ module _ (w : Width) (n : ℕ) where
   entries-fit (x ∷ m) (u ∷ us) (suc j) i p = entries-fit m us j i (p .1)
 
   -- as a parameter gives it (`c .good .0`)
-  pub row-long : (k : ℕ) (m : List (List ℤ)) (vs : List Val) → shadow (inArray (List ℤ) (Array (SInt w) n .own) k m vs) → (j : ℕ) → j < k → length (getD m j []) ≡ n
-  row-long k m vs g j h = rows-long m (g .0) j (g .1 .1) (rw (g .1 .0 .1) h)
-
   pub entry-small : (k : ℕ) (m : List (List ℤ)) (vs : List Val) → shadow (inArray (List ℤ) (Array (SInt w) n .own) k m vs) → (j i : ℕ) → natAbs (getD (getD m j []) i (pos 0)) ≤ 2 ^ hbits w
   entry-small k m vs g j i = within-sfits {w = w} {z = getD (getD m j []) i (pos 0)} (record { sfits = entries-fit m (g .0) j i (g .1 .1) }) .bound

@@ -73,7 +73,7 @@ sizes-are n d =
     (λ a p. sum-ext ofN+ n (λ b. natAbs (entry (passed n (passed n d)) a b)) (λ b. natAbs (coefficient n (entry d) a b))
     (λ b q. ap natAbs (two-passes n d a b p q)))
 
--- with the first number of all taken out of the sum, and a quarter of it put back, it is the sum of shares
+-- with the first number of all taken out, and a quarter of it put back, a sum of sizes is the sum of shares
 quarter : (n : ℕ) (f : ℕ → ℕ → ℕ)
     → (sumN (suc n) (λ a. sumN (suc n) (λ b. share a b (f a b))) + f 0 0 ≡ sumN (suc n) (λ a. sumN (suc n) (f a)) + f 0 0 / 4)
     × (f 0 0 ≤ sumN (suc n) (λ a. sumN (suc n) (f a)))
@@ -84,8 +84,17 @@ quarter n f =
     let e = sum-first ofN+ n (f 0) in
     (omega arith, omega arith)
 
--- the DC as the code has it
-pub tile-sum : (n : ℕ) (d : List (List ℤ)) → (tileSum (suc n) (entry d) + natAbs (entry (passed (suc n) (passed (suc n) d)) 0 0) ≡ sizes (suc n) (passed (suc n) (passed (suc n) d)) + natAbs (entry (passed (suc n) (passed (suc n) d)) 0 0) / 4) × (natAbs (entry (passed (suc n) (passed (suc n) d)) 0 0) ≤ sizes (suc n) (passed (suc n) (passed (suc n) d)))
+-- a tile d by the code: the passes m and c, the sum of all sizes, and the DC's size
+pub record ByPasses (n : ℕ) (d m c : List (List ℤ)) (all dc : ℕ) : Type 0 where
+  pub rows : m ≡ passed n d
+  pub columns : c ≡ passed n m
+  pub total : all ≡ sizes n c
+  pub first : dc ≡ natAbs (entry c 0 0)
+
+-- it has the tile's sum
+pub shares : {n all dc : ℕ} {d m c : List (List ℤ)} → ByPasses (suc n) d m c all dc → (tileSum (suc n) (entry d) + dc ≡ all + dc / 4) × (dc ≤ all)
 unfolding tileSum
-tile-sum n d =
-    rw (sizes-are (suc n) d, two-passes (suc n) d 0 0 (omega arith) (omega arith)) (quarter n (λ a b. natAbs (coefficient (suc n) (entry d) a b)))
+shares {n} {all} {dc} {d} {m} {c} t =
+    let e : c ≡ passed (suc n) (passed (suc n) d) = t .columns ∙ ap (passed (suc n)) (t .rows) in
+    rw (t .total, t .first, e, sizes-are (suc n) d, two-passes (suc n) d 0 0 (omega arith) (omega arith))
+    (quarter n (λ a b. natAbs (coefficient (suc n) (entry d) a b)))

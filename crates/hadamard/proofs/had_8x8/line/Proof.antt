@@ -1,5 +1,5 @@
 -- `hadamard::had_8x8::line` meets its contract: each local is an expression of the line's numbers. That none wraps is a test of bounds,
--- that the results are the coefficients one of normal forms. Written by tools/lines.py. Assumes nothing.
+-- that the results are the coefficients one of normal forms. Written by tools/passes.py. Assumes nothing.
 use mathlib.Core.List.{List, [], _∷_, map}
 use lib.Count.{ones, onesIn}
 use lib.Dec.{lit<}

@@ -1,30 +1,40 @@
--- `hadamard::had_8x8::pass` meets its contract. The invariant: the columns passed are filled with the rows' coefficients. Assumes nothing.
+-- `hadamard::had_8x8::pass` meets its contract. The invariant: the columns passed are filled with the rows' coefficients. Written by
+-- tools/passes.py. Assumes nothing.
 use borrow.Author.Needs.{needs}
 use mathlib.Core.Path.{_≡_, ap, _∙_}
 use mathlib.Core.List.{List, []}
-use Prim.Native.Nat.{ℕ, _-_, _<_, _^_}
+use Prim.Native.Nat.{ℕ, _-_, _<_}
 use native.Mathlib.Omega.{arith}
 use lib.Dec.{lit<}
 use lib.IntN.{ℤ, pos}
 use lib.ListN.{getD}
-use lib.Signed.{mag}
 use mir.Syntax.{w32}
 use mir.Val.{toZ, ofZ}
-use Rattle.integers.proofs.Bits.{back}
+use Rattle.integers.proofs.Bits.{back, each-sfits}
 use Rattle.hadamard.specs.Passes.{place, entry, line, passed}
 use Rattle.hadamard.proofs.Lines.{lines-at}
-use Rattle.hadamard.proofs.Columns.{Column, column-start, column-store, column-next, column-end}
+use Rattle.hadamard.proofs.Columns.{Columns, columns-start, columns-turn, columns-end}
 use Rattle.hadamard.proofs.had_8x8.pass.Statement.{statement}
 use Rattle.hadamard.proofs.had_8x8.pass.Tie as tie
 
 abbrev Inv-loop : tie.InvT-loop
-Inv-loop m out₀ j₀ out j = Column ℤ (pos 0) 8 (λ b i. line 8 (entry m i) b) out j 0
+Inv-loop m out₀ j₀ out j = Columns ℤ (pos 0) 8 (λ b i. line 8 (entry m i) b) out j
 
 abbrev μ-loop : tie.MeasureT-loop
 μ-loop m out₀ j₀ out j = 8 - j
 
 loop-holds : tie.Need-loop-holds Inv-loop μ-loop
-loop-holds c = column-start (pos 0)
+loop-holds c = columns-start (pos 0)
+
+-- what `line` gave, as it is stored
+abbrev value : tie.After-line Inv-loop μ-loop → ℕ → ℤ
+value c b = toZ w32 (ofZ w32 (place (c .line .result) b))
+
+value-is : (c : tie.After-line Inv-loop μ-loop) (b : ℕ) → b < 8 → value c b ≡ line 8 (entry (c .before .before .before .before .args .t1) (c .before .before .before .loop .j)) b
+value-is c b h =
+    back w32 (place (c .line .result) b) (each-sfits w32 (c .line .result) (c .line .ok .0) b (c .line .ok .1 .1))
+    ∙ ap (λ (x : List ℤ). place x b) (c .line .ensures)
+    ∙ lines-at 8 (getD (c .before .before .before .before .args .t1) (c .before .before .before .loop .j) []) b h
 
 mul-x : tie.Need-mul-x Inv-loop μ-loop
 mul-x c = omega arith
@@ -137,32 +147,12 @@ add-j c = omega arith
 loop-less : tie.Need-loop-less Inv-loop μ-loop
 loop-less c = omega arith
 
--- the turn's column
-turn : (c : tie.After-out8 Inv-loop μ-loop) → c .before .before .before .before .before .before .before .before .before .before .before .loop .j < 8
-turn c = omega arith
-
--- what `line` gave, as it is stored
-value : (c : tie.After-line Inv-loop μ-loop) (b : ℕ) → b < 8 → mag (place (c .line .result) b) < 2 ^ 31 → toZ w32 (ofZ w32 (place (c .line .result) b)) ≡ line 8 (entry (c .before .before .before .before .args .t1) (c .before .before .before .loop .j)) b
-value c b h g =
-    back w32 (place (c .line .result) b) g ∙ ap (λ (x : List ℤ). place x b) (c .line .ensures)
-    ∙ lines-at 8 (getD (c .before .before .before .before .args .t1) (c .before .before .before .loop .j) []) b h
-
 loop-again : tie.Need-loop-again Inv-loop μ-loop
-loop-again c =
-    column-next
-    (column-store
-    (column-store
-    (column-store
-    (column-store
-    (column-store
-    (column-store
-    (column-store
-    (column-store
-    (c .before .before .before .before .before .before .before .before .before .before .before .loop .inv) (lit< tt) (turn c) (value (c .before .before .before .before .before .before .before .before) 0 (lit< tt) (c .before .before .before .before .before .before .before .out .given))) (lit< tt) (turn c) (value (c .before .before .before .before .before .before .before .before) 1 (lit< tt) (c .before .before .before .before .before .before .out2 .given))) (lit< tt) (turn c) (value (c .before .before .before .before .before .before .before .before) 2 (lit< tt) (c .before .before .before .before .before .out3 .given))) (lit< tt) (turn c) (value (c .before .before .before .before .before .before .before .before) 3 (lit< tt) (c .before .before .before .before .out4 .given))) (lit< tt) (turn c) (value (c .before .before .before .before .before .before .before .before) 4 (lit< tt) (c .before .before .before .out5 .given))) (lit< tt) (turn c) (value (c .before .before .before .before .before .before .before .before) 5 (lit< tt) (c .before .before .out6 .given))) (lit< tt) (turn c) (value (c .before .before .before .before .before .before .before .before) 6 (lit< tt) (c .before .out7 .given))) (lit< tt) (turn c) (value (c .before .before .before .before .before .before .before .before) 7 (lit< tt) (c .out8 .given)))
+loop-again c = let l = c .before .before .before .before .before .before .before .before in columns-turn (value l) (l .before .before .before .loop .inv) (omega arith) (value-is l)
 
 returns : tie.Need-returns Inv-loop μ-loop
 unfolding passed
-returns c = column-end (c .before .loop .inv) (omega arith)
+returns c = columns-end (c .before .loop .inv) (omega arith)
 
 pub pass-spec : {M : Type 1} → statement M
 pass-spec =
