@@ -8,7 +8,7 @@ use lib.IntN.{ℤ, pos, natAbs}
 use lib.Signed.{mag}
 use lib.Pow.{pow-pos}
 use mir.Syntax.{Width}
-use mir.Val.{Val, hbits}
+use mir.Val.{Val, SFits, hbits}
 use denote.Array.{Array, each, inArray}
 use denote.Shadow.{shadow}
 use denote.Signed.{SInt}
@@ -23,5 +23,8 @@ module _ (w : Width) (n : ℕ) where
   entries-fit (x ∷ m) (u ∷ us) (suc j) i p = entries-fit m us j i (p .1)
 
   -- as a parameter gives it (`c .good .0`)
+  pub entry-fits : (k : ℕ) (m : List (List ℤ)) (vs : List Val) → shadow (inArray (List ℤ) (Array (SInt w) n .own) k m vs) → (j i : ℕ) → SFits w (getD (getD m j []) i (pos 0))
+  entry-fits k m vs g j i = record { sfits = entries-fit m (g .0) j i (g .1 .1) }
+
   pub entry-small : (k : ℕ) (m : List (List ℤ)) (vs : List Val) → shadow (inArray (List ℤ) (Array (SInt w) n .own) k m vs) → (j i : ℕ) → natAbs (getD (getD m j []) i (pos 0)) ≤ 2 ^ hbits w
-  entry-small k m vs g j i = within-sfits {w = w} {z = getD (getD m j []) i (pos 0)} (record { sfits = entries-fit m (g .0) j i (g .1 .1) }) .bound
+  entry-small k m vs g j i = within-sfits (entry-fits k m vs g j i) .bound
