@@ -49,8 +49,8 @@ def line(side, locals_, results):
         "use mir.Syntax.{w32}",
         "use Rattle.integers.proofs.Expr.{Ex, var, add, sub, stored}",
         "use Rattle.evc.specs.Tiles.{sign}",
-        "use Rattle.hadamard.specs.Passes.{Bounded}",
-        "use Rattle.hadamard.proofs.Lines.{fits, lines-are}",
+        "use Rattle.hadamard.specs.Passes.{RowWithin}",
+        "use Rattle.hadamard.proofs.Lines.{fits, line-is}",
         f"use {here}.Statement.{{statement}}",
         f"use {here}.Tie as tie",
         "",
@@ -64,7 +64,7 @@ def line(side, locals_, results):
         f"abbrev input : tie.After-x{side - 1} → List ℤ",
         f"input c = c {back} .args .t1",
         "",
-        f"small : (c : tie.After-x{side - 1}) → Bounded 262144 (input c)",
+        f"small : (c : tie.After-x{side - 1}) → RowWithin 262144 (input c)",
         f"small c = c {back} .pre",
         "",
     ]
@@ -84,7 +84,7 @@ def line(side, locals_, results):
     out += [
         "returns : tie.Need-returns",
         "unfolding sign ones onesIn pow one",
-        "returns c = lines-are (input c) (small c) results tt tt",
+        "returns c = line-is (input c) (small c) results tt tt",
         "",
         "pub line-spec : {M : Type 1} → statement M",
         "line-spec =",
@@ -114,7 +114,7 @@ def pass_(side, last):
         "use mir.Val.{toZ, ofZ}",
         "use Rattle.integers.proofs.Bits.{back, each-sfits}",
         "use Rattle.hadamard.specs.Passes.{place, entry, line, passed}",
-        "use Rattle.hadamard.proofs.Lines.{lines-at}",
+        "use Rattle.hadamard.proofs.Lines.{line-at}",
         "use Rattle.hadamard.proofs.Columns.{Columns, columns-start, columns-turn, columns-end}",
         f"use {here}.Statement.{{statement}}",
         f"use {here}.Tie as tie",
@@ -136,7 +136,7 @@ def pass_(side, last):
         "value-is c b h =",
         "    back w32 (place (c .line .result) b) (each-sfits w32 (c .line .result) (c .line .ok .0) b (c .line .ok .1 .1))",
         "    ∙ ap (λ (x : List ℤ). place x b) (c .line .ensures)",
-        f"    ∙ lines-at {side} (getD (c .before .before .before .before .args .t1) (c .before .before .before .loop .j) []) b h",
+        f"    ∙ line-at {side} (getD (c .before .before .before .before .args .t1) (c .before .before .before .loop .j) []) b h",
         "",
     ]
     needs = []

@@ -26,5 +26,5 @@ module _ (w : Width) (n : ℕ) where
   pub entry-fits : (k : ℕ) (m : List (List ℤ)) (vs : List Val) → shadow (inArray (List ℤ) (Array (SInt w) n .own) k m vs) → (j i : ℕ) → SFits w (getD (getD m j []) i (pos 0))
   entry-fits k m vs g j i = record { sfits = entries-fit m (g .0) j i (g .1 .1) }
 
-  pub entry-small : (k : ℕ) (m : List (List ℤ)) (vs : List Val) → shadow (inArray (List ℤ) (Array (SInt w) n .own) k m vs) → (j i : ℕ) → natAbs (getD (getD m j []) i (pos 0)) ≤ 2 ^ hbits w
-  entry-small k m vs g j i = within-sfits (entry-fits k m vs g j i) .bound
+  pub entry-within : (k : ℕ) (m : List (List ℤ)) (vs : List Val) → shadow (inArray (List ℤ) (Array (SInt w) n .own) k m vs) → (j i : ℕ) → natAbs (getD (getD m j []) i (pos 0)) ≤ 2 ^ hbits w
+  entry-within k m vs g j i = within-sfits (entry-fits k m vs g j i) .bound

@@ -3,3 +3,4 @@ pub mod Blocks
 pub mod Columns
 pub mod Lines
 pub mod Tiles
+pub mod Most

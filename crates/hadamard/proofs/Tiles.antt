@@ -1,27 +1,27 @@
--- Two passes give the tile's coefficients, and their sizes the tile's number, of any side. Assumes nothing.
-use mathlib.Core.Path.{_≡_, refl, sym, ap, _∙_, subst}
+-- Two passes give the tile's coefficients (`two-passes`), and their sizes the tile's sum (`shares`), of any side. Assumes nothing.
+use mathlib.Core.Path.{_≡_, sym, ap, _∙_}
 use mathlib.Core.List.{List, []}
 use Prim.Native.Nat.{ℕ, suc, _+_, _*_, _/_, _≤_, _<_, zero-le}
 use native.Mathlib.Decide.{decLt}
 use native.Mathlib.Omega.{arith}
-use lib.ListN.{length, getD, List·getD-eq-default}
+use lib.ListN.{getD, List·getD-eq-default}
 use lib.IntN.{ℤ, pos, _*ℤ_, natAbs, *ℤ-comm}
 use Rattle.integers.specs.Lists.{tab}
-use Rattle.integers.specs.Sum.{ofZ+, ofN+, sum, sumZ, sumN}
+use Rattle.integers.specs.Sum.{ofZ+, ofN+, sumZ, sumN}
 use Rattle.integers.proofs.Ring.{*ℤ-assoc}
 use Rattle.integers.proofs.Sum.{sum-ext, sum-first, sum-times, sum-le}
 use Rattle.integers.proofs.Written.{tab-at, tab-length}
 use Rattle.evc.specs.Tiles.{sign, coefficient, share, tileSum}
-use Rattle.hadamard.specs.Passes.{place, entry, Bounded, Small, line, passed, rowSizes, sizes}
-use Rattle.hadamard.proofs.Lines.{line-small, line-ext}
+use Rattle.hadamard.specs.Passes.{place, entry, RowWithin, BlockWithin, line, passed, rowSizes, blockSizes}
+use Rattle.hadamard.proofs.Lines.{line-within, line-ext}
 
 -- ---- entries of a block that is made entry by entry
 module _ (n : ℕ) (f : ℕ → ℕ → ℤ) where
-  pub made-at : (a b : ℕ) → a < n → b < n → entry (tab n (λ k. tab n (f k))) a b ≡ f a b
+  made-at : (a b : ℕ) → a < n → b < n → entry (tab n (λ k. tab n (f k))) a b ≡ f a b
   made-at a b p q = ap (λ (x : List ℤ). place x b) (tab-at n (λ k. tab n (f k)) a [] p) ∙ tab-at n (f a) b (pos 0) q
 
-  pub made-small : (B : ℕ) → ((a b : ℕ) → natAbs (f a b) ≤ B) → Small B (tab n (λ k. tab n (f k)))
-  made-small B h a b = row (decLt a n)
+  made-within : (B : ℕ) → ((a b : ℕ) → natAbs (f a b) ≤ B) → BlockWithin B (tab n (λ k. tab n (f k)))
+  made-within B h a b = row (decLt a n)
     where
       entries : Dec (b < n) → natAbs (place (tab n (f a)) b) ≤ B
       entries (yes p) = rw (tab-at n (f a) b (pos 0) p) (h a b)
@@ -32,9 +32,9 @@ module _ (n : ℕ) (f : ℕ → ℕ → ℤ) where
       row (no p) = rw (List·getD-eq-default (tab n (λ k. tab n (f k))) [] {n = a} (rw (tab-length n (λ k. tab n (f k))) (omega arith))) zero-le
 
 -- ---- the passes
-pub passed-small : (n B : ℕ) (m : List (List ℤ)) → Small B m → Small (n * B) (passed n m)
+pub passed-within : (n B : ℕ) (m : List (List ℤ)) → BlockWithin B m → BlockWithin (n * B) (passed n m)
 unfolding passed
-passed-small n B m h = made-small n (λ b j. line n (entry m j) b) (n * B) (λ b j. line-small B n (entry m j) b (h j))
+passed-within n B m h = made-within n (λ b j. line n (entry m j) b) (n * B) (λ b j. line-within B n (entry m j) b (h j))
 
 passed-at : (n : ℕ) (m : List (List ℤ)) (b j : ℕ) → b < n → j < n → entry (passed n m) b j ≡ line n (entry m j) b
 unfolding passed
@@ -51,23 +51,23 @@ line-line n d a b =
     (λ j p. sym (sum-times n (sign a j) (λ i. d j i *ℤ sign b i))
     ∙ sum-ext ofZ+ n (λ i. d j i *ℤ sign b i *ℤ sign a j) (λ i. d j i *ℤ sign a j *ℤ sign b i) (λ i q. turn (d j i) (sign b i) (sign a j)))
 
-pub two-passes : (n : ℕ) (d : List (List ℤ)) (a b : ℕ) → a < n → b < n → entry (passed n (passed n d)) a b ≡ coefficient n (entry d) a b
+two-passes : (n : ℕ) (d : List (List ℤ)) (a b : ℕ) → a < n → b < n → entry (passed n (passed n d)) a b ≡ coefficient n (entry d) a b
 two-passes n d a b p q =
     passed-at n (passed n d) a b p q
     ∙ line-ext n (entry (passed n d) b) (λ j. line n (entry d j) b) a (λ j r. passed-at n d b j q r)
     ∙ line-line n (entry d) a b
 
 -- ---- sums of sizes
-pub row-most : (n B : ℕ) (x : List ℤ) → Bounded B x → rowSizes n x ≤ n * B
+pub row-most : (n B : ℕ) (x : List ℤ) → RowWithin B x → rowSizes n x ≤ n * B
 unfolding rowSizes
 row-most n B x h = sum-le n B (λ i. natAbs (place x i)) (λ i p. h i)
 
-pub sizes-most : (n B : ℕ) (m : List (List ℤ)) → Small B m → sizes n m ≤ n * (n * B)
-unfolding sizes
-sizes-most n B m h = sum-le n (n * B) (λ j. rowSizes n (getD m j [])) (λ j p. row-most n B (getD m j []) (h j))
+pub block-most : (n B : ℕ) (m : List (List ℤ)) → BlockWithin B m → blockSizes n m ≤ n * (n * B)
+unfolding blockSizes
+block-most n B m h = sum-le n (n * B) (λ j. rowSizes n (getD m j [])) (λ j p. row-most n B (getD m j []) (h j))
 
-sizes-are : (n : ℕ) (d : List (List ℤ)) → sizes n (passed n (passed n d)) ≡ sumN n (λ a. sumN n (λ b. natAbs (coefficient n (entry d) a b)))
-unfolding sizes rowSizes
+sizes-are : (n : ℕ) (d : List (List ℤ)) → blockSizes n (passed n (passed n d)) ≡ sumN n (λ a. sumN n (λ b. natAbs (coefficient n (entry d) a b)))
+unfolding blockSizes rowSizes
 sizes-are n d =
     sum-ext ofN+ n (λ a. rowSizes n (getD (passed n (passed n d)) a [])) (λ a. sumN n (λ b. natAbs (coefficient n (entry d) a b)))
     (λ a p. sum-ext ofN+ n (λ b. natAbs (entry (passed n (passed n d)) a b)) (λ b. natAbs (coefficient n (entry d) a b))
@@ -88,7 +88,7 @@ quarter n f =
 pub record ByPasses (n : ℕ) (d m c : List (List ℤ)) (all dc : ℕ) : Type 0 where
   pub rows : m ≡ passed n d
   pub columns : c ≡ passed n m
-  pub total : all ≡ sizes n c
+  pub total : all ≡ blockSizes n c
   pub first : dc ≡ natAbs (entry c 0 0)
 
 -- it has the tile's sum

@@ -1,5 +1,5 @@
--- The passes of a tile, as the contracts of src/ cite them: a block is a list of rows. A tile's number and its coefficients are evc's
--- (specs/Tiles.antt). Assumes nothing.
+-- The passes of a tile, as the contracts of src/had_8x8.rt and src/had_4x4.rt cite them; of any side n. A block is the list of its rows. A
+-- tile's coefficients and its number are evc's (specs/Tiles.antt). Assumes nothing.
 use mathlib.Core.Path.{_≡_}
 use Prim.Native.Nat.{ℕ, _≤_}
 use mathlib.Core.List.{List, []}
@@ -16,32 +16,32 @@ place x i = getD x i (pos 0)
 abbrev pub entry : List (List ℤ) → ℕ → ℕ → ℤ
 entry m j i = place (getD m j []) i
 
--- no number of a row, of a block is above n in size
-abbrev pub Bounded : ℕ → List ℤ → Type 0
-Bounded n x = (i : ℕ) → natAbs (place x i) ≤ n
+-- no number of a row, or of a block, is above B in size
+abbrev pub RowWithin : ℕ → List ℤ → Type 0
+RowWithin B x = (i : ℕ) → natAbs (place x i) ≤ B
 
-abbrev pub Small : ℕ → List (List ℤ) → Type 0
-Small n m = (j : ℕ) → Bounded n (getD m j [])
+abbrev pub BlockWithin : ℕ → List (List ℤ) → Type 0
+BlockWithin B m = (j : ℕ) → RowWithin B (getD m j [])
 
--- coefficient b of a line x of n numbers, and all n of them
+-- coefficient b of a line x, and the list of all of them
 unfoldable pub line : ℕ → (ℕ → ℤ) → ℕ → ℤ
 line n x b = sumZ n (λ i. x i *ℤ sign b i)
 
-unfoldable pub lines : ℕ → List ℤ → List ℤ
-lines n x = tab n (line n (place x))
+unfoldable pub wholeLine : ℕ → List ℤ → List ℤ
+wholeLine n x = tab n (line n (place x))
 
 -- one pass: each row becomes its coefficients, and the block is turned: row b holds coefficient b of every row
 unfoldable pub passed : ℕ → List (List ℤ) → List (List ℤ)
 passed n m = tab n (λ b. tab n (λ j. line n (entry m j) b))
 
--- r is what a pass makes of m, and no number of it is above s in size
-pub record Passed (n s : ℕ) (m r : List (List ℤ)) : Type 0 where
+-- r is what a pass makes of m, and within B
+pub record Passed (n B : ℕ) (m r : List (List ℤ)) : Type 0 where
   pub is : r ≡ passed n m
-  pub small : Small s r
+  pub within : BlockWithin B r
 
--- the sizes of a row, of a block, added
+-- the sizes of a row's numbers, and of a block's, added
 unfoldable pub rowSizes : ℕ → List ℤ → ℕ
 rowSizes n x = sumN n (λ i. natAbs (place x i))
 
-unfoldable pub sizes : ℕ → List (List ℤ) → ℕ
-sizes n m = sumN n (λ j. rowSizes n (getD m j []))
+unfoldable pub blockSizes : ℕ → List (List ℤ) → ℕ
+blockSizes n m = sumN n (λ j. rowSizes n (getD m j []))

@@ -1,14 +1,14 @@
 // `evc_had_8x8`, after the Rust's function of that name. Document 01, "Distortion".
-// Differs from the Rust in: the differences are handed in; each pass is one step that turns the block, so that the column pass finds the
-// columns as rows; all coefficients are added, and then the DC is taken out and a quarter of it put back.
+// Differs from the Rust in: the differences are handed in. A pass also turns the block, so that the column pass finds the columns as rows and
+// is the same step. All coefficients' sizes are added; then the DC's is taken out and a quarter of it put back.
 ghost use mathlib.Core.Path.{_≡_};
 ghost use Rattle.evc.specs.Tiles.{tileNumber};
-ghost use Rattle.hadamard.specs.Passes.{entry, Bounded, Small, Passed, lines, passed, sizes, rowSizes};
+ghost use Rattle.hadamard.specs.Passes.{entry, RowWithin, BlockWithin, Passed, wholeLine, passed, rowSizes, blockSizes};
 
 // The eight coefficients of a line, in three steps of butterflies.
 fn line(x: [i32; 8]) -> [i32; 8]
-    requires { ⌜ Bounded 262144 x ⌝ }
-    ensures { λ r. ⌜ r ≡ lines 8 x ⌝ }
+    requires { ⌜ RowWithin 262144 x ⌝ }
+    ensures { λ r. ⌜ r ≡ wholeLine 8 x ⌝ }
 {
     let x0 = x[0];
     let x1 = x[1];
@@ -46,9 +46,9 @@ fn line(x: [i32; 8]) -> [i32; 8]
     ]
 }
 
-// One pass: row b of the result holds coefficient b of each row.
+// One pass. Row b of the result holds coefficient b of every row, in the order of the rows.
 fn pass(m: [[i32; 8]; 8]) -> [[i32; 8]; 8]
-    requires { ⌜ Small 262144 m ⌝ }
+    requires { ⌜ BlockWithin 262144 m ⌝ }
     ensures { λ r. ⌜ r ≡ passed 8 m ⌝ }
 {
     let mut out = [[0i32; 8]; 8];
@@ -67,16 +67,17 @@ fn pass(m: [[i32; 8]; 8]) -> [[i32; 8]; 8]
     out
 }
 
-// The row pass and the column pass: after the first, row b holds coefficient b of every row; the second takes that on.
+// The row pass. A difference needs 16 bits, and a sum of eight of them 3 more.
 fn row_pass(diff: [[i32; 8]; 8]) -> [[i32; 8]; 8]
-    requires { ⌜ Small 32768 diff ⌝ }
+    requires { ⌜ BlockWithin 32768 diff ⌝ }
     ensures { λ r. ⌜ Passed 8 262144 diff r ⌝ }
 {
     pass(diff)
 }
 
+// The column pass takes on what the row pass made: row b of it is column b of the tile.
 fn column_pass(m: [[i32; 8]; 8]) -> [[i32; 8]; 8]
-    requires { ⌜ Small 262144 m ⌝ }
+    requires { ⌜ BlockWithin 262144 m ⌝ }
     ensures { λ r. ⌜ Passed 8 2097152 m r ⌝ }
 {
     pass(m)
@@ -107,7 +108,7 @@ fn widened(diff: [[i16; 8]; 8]) -> [[i32; 8]; 8]
 
 // The sizes of a row, and of the block, added.
 fn row_sum(x: [i32; 8]) -> u32
-    requires { ⌜ Bounded 2097152 x ⌝ }
+    requires { ⌜ RowWithin 2097152 x ⌝ }
     ensures { λ s. ⌜ s ≡ rowSizes 8 x ⌝ }
 {
     let mut s: u32 = 0;
@@ -119,8 +120,8 @@ fn row_sum(x: [i32; 8]) -> u32
 }
 
 fn sum(m: [[i32; 8]; 8]) -> u32
-    requires { ⌜ Small 2097152 m ⌝ }
-    ensures { λ s. ⌜ s ≡ sizes 8 m ⌝ }
+    requires { ⌜ BlockWithin 2097152 m ⌝ }
+    ensures { λ s. ⌜ s ≡ blockSizes 8 m ⌝ }
 {
     let mut s: u32 = 0;
     for j in 0..8 {

@@ -1,13 +1,12 @@
 -- `hadamard::had_2x2::evc_had_2x2` meets its contract: each number whose size is added is an expression of the four differences, and a
 -- coefficient, by a comparison of normal forms. Assumes nothing.
 use borrow.Author.Needs.{needs}
-use mathlib.Core.Path.{_≡_, refl, ap, _∙_, subst}
+use mathlib.Core.Path.{_≡_, refl, ap, _∙_}
 use Prim.Native.Nat.{ℕ, _+_, _*_, _/_, _%_, _≤_}
 use native.Mathlib.Omega.{arith}
 use lib.Count.{ones, onesIn}
 use lib.Dec.{T}
-use lib.IntN.{ℤ, natAbs, pow, one}
-use mathlib.Core.List.{List}
+use lib.IntN.{natAbs, pow, one}
 use mir.Syntax.{w16, w32}
 use Rattle.integers.specs.Sum.{sum}
 use Rattle.integers.proofs.Expr.{Ex, Known, var, lit, add, sub, mul, loc, val, raw, bound, ok, arg, machines, exacts, sizes, fit, reads, within}

@@ -2,8 +2,8 @@
 use mathlib.Core.Path.{sym, subst}
 use native.Mathlib.Nat.{le-trans}
 use lib.Dec.{lit≤}
-use Rattle.hadamard.specs.Passes.{Small}
-use Rattle.hadamard.proofs.Tiles.{passed-small}
+use Rattle.hadamard.specs.Passes.{BlockWithin}
+use Rattle.hadamard.proofs.Tiles.{passed-within}
 use Rattle.hadamard.proofs.had_4x4.column_pass.Statement.{statement}
 use Rattle.hadamard.proofs.had_4x4.column_pass.Tie as tie
 
@@ -13,7 +13,7 @@ pass-requires c κs = λ j i. le-trans (c .pre j i) (lit≤ tt)
 returns : tie.Need-returns
 returns c = record {
   is = c .pass .ensures;
-  small = subst (Small 524288) (sym (c .pass .ensures)) (passed-small 4 131072 (c .before .args .m) (c .before .pre));
+  within = subst (BlockWithin 524288) (sym (c .pass .ensures)) (passed-within 4 131072 (c .before .args .m) (c .before .pre));
 }
 
 pub column-pass-spec : {M : Type 1} → statement M

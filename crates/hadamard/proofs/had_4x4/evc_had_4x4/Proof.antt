@@ -6,9 +6,9 @@ use lib.IntN.{natAbs}
 use mir.Syntax.{w16, w32}
 use Rattle.integers.proofs.Bits.{back}
 use Rattle.evc.specs.Tiles.{tileNumber}
-use Rattle.hadamard.specs.Passes.{entry, Small, passed}
-use Rattle.hadamard.proofs.Blocks.{entry-small}
-use Rattle.hadamard.proofs.Tiles.{ByPasses, shares, sizes-most}
+use Rattle.hadamard.specs.Passes.{entry, BlockWithin, passed}
+use Rattle.hadamard.proofs.Blocks.{entry-within}
+use Rattle.hadamard.proofs.Tiles.{ByPasses, shares, block-most}
 use Rattle.hadamard.proofs.had_4x4.evc_had_4x4.Statement.{statement}
 use Rattle.hadamard.proofs.had_4x4.evc_had_4x4.Tie as tie
 
@@ -17,13 +17,13 @@ widened-requires c κs = tt
 
 row-pass-requires : tie.Need-row-pass-requires
 row-pass-requires c κs =
-    subst (Small 32768) (sym (c .widened .ensures)) (entry-small w16 4 4 (c .before .args .diff) _ (c .before .good .0))
+    subst (BlockWithin 32768) (sym (c .widened .ensures)) (entry-within w16 4 4 (c .before .args .diff) _ (c .before .good .0))
 
 column-pass-requires : tie.Need-column-pass-requires
-column-pass-requires c κs = c .row-pass .ensures .small
+column-pass-requires c κs = c .row-pass .ensures .within
 
 sum-requires : tie.Need-sum-requires
-sum-requires c κs = c .column-pass .ensures .small
+sum-requires c κs = c .column-pass .ensures .within
 
 index-1-v : tie.Need-index-1-v
 index-1-v c = search needs
@@ -51,7 +51,7 @@ add-result c = search needs
 
 add-result-2 : tie.Need-add-result-2
 add-result-2 c =
-    omega (arith, tile c .total, sizes-most 4 524288 (c .before .before .before .column-pass .result) (c .before .before .before .column-pass .ensures .small))
+    omega (arith, tile c .total, block-most 4 524288 (c .before .before .before .column-pass .result) (c .before .before .before .column-pass .ensures .within))
 
 returns : tie.Need-returns
 unfolding tileNumber

@@ -7,8 +7,8 @@ use lib.IntN.{ℤ, pow, one}
 use mir.Syntax.{w32}
 use Rattle.integers.proofs.Expr.{Ex, var, add, sub, stored}
 use Rattle.evc.specs.Tiles.{sign}
-use Rattle.hadamard.specs.Passes.{Bounded}
-use Rattle.hadamard.proofs.Lines.{fits, lines-are}
+use Rattle.hadamard.specs.Passes.{RowWithin}
+use Rattle.hadamard.proofs.Lines.{fits, line-is}
 use Rattle.hadamard.proofs.had_4x4.line.Statement.{statement}
 use Rattle.hadamard.proofs.had_4x4.line.Tie as tie
 
@@ -30,7 +30,7 @@ results = map (stored w32) (add a0 a1 ∷ sub a0 a1 ∷ add a2 a3 ∷ sub a2 a3 
 abbrev input : tie.After-x3 → List ℤ
 input c = c .before .before .before .before .args .t1
 
-small : (c : tie.After-x3) → Bounded 262144 (input c)
+small : (c : tie.After-x3) → RowWithin 262144 (input c)
 small c = c .before .before .before .before .pre
 
 array-copy-out-x0 : tie.Need-array-copy-out-x0
@@ -71,7 +71,7 @@ sub-t22 c = fits (input c) (small c) (sub a2 a3) tt
 
 returns : tie.Need-returns
 unfolding sign ones onesIn pow one
-returns c = lines-are (input c) (small c) results tt tt
+returns c = line-is (input c) (small c) results tt tt
 
 pub line-spec : {M : Type 1} → statement M
 line-spec =

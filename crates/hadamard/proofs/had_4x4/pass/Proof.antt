@@ -12,7 +12,7 @@ use mir.Syntax.{w32}
 use mir.Val.{toZ, ofZ}
 use Rattle.integers.proofs.Bits.{back, each-sfits}
 use Rattle.hadamard.specs.Passes.{place, entry, line, passed}
-use Rattle.hadamard.proofs.Lines.{lines-at}
+use Rattle.hadamard.proofs.Lines.{line-at}
 use Rattle.hadamard.proofs.Columns.{Columns, columns-start, columns-turn, columns-end}
 use Rattle.hadamard.proofs.had_4x4.pass.Statement.{statement}
 use Rattle.hadamard.proofs.had_4x4.pass.Tie as tie
@@ -34,7 +34,7 @@ value-is : (c : tie.After-line Inv-loop μ-loop) (b : ℕ) → b < 4 → value c
 value-is c b h =
     back w32 (place (c .line .result) b) (each-sfits w32 (c .line .result) (c .line .ok .0) b (c .line .ok .1 .1))
     ∙ ap (λ (x : List ℤ). place x b) (c .line .ensures)
-    ∙ lines-at 4 (getD (c .before .before .before .before .args .t1) (c .before .before .before .loop .j) []) b h
+    ∙ line-at 4 (getD (c .before .before .before .before .args .t1) (c .before .before .before .loop .j) []) b h
 
 mul-x : tie.Need-mul-x Inv-loop μ-loop
 mul-x c = omega arith

@@ -1,9 +1,9 @@
 -- `hadamard::had_4x4::row_sum` meets its contract. The invariant: the sum is that of the sizes passed. Assumes nothing.
 use borrow.Author.Needs.{needs}
 use mathlib.Core.Path.{_≡_, ap, _∙_}
-use Prim.Native.Nat.{ℕ, _-_}
+use Prim.Native.Nat.{_-_}
 use native.Mathlib.Omega.{arith}
-use lib.IntN.{ℤ, natAbs}
+use lib.IntN.{natAbs}
 use mir.Syntax.{w32}
 use Rattle.integers.specs.Sum.{ofN+}
 use Rattle.integers.proofs.Bits.{back}

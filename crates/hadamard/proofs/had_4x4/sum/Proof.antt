@@ -1,11 +1,11 @@
 -- `hadamard::had_4x4::sum` meets its contract. The invariant: the sum is that of the rows passed. Assumes nothing.
 use mathlib.Core.List.{[]}
-use Prim.Native.Nat.{ℕ, _-_}
+use Prim.Native.Nat.{_-_}
 use native.Mathlib.Omega.{arith}
 use lib.ListN.{getD}
 use Rattle.integers.specs.Sum.{ofN+}
 use Rattle.integers.proofs.Loop.{Summed, summed-start, summed-step, summed-end, summed-next}
-use Rattle.hadamard.specs.Passes.{rowSizes, sizes}
+use Rattle.hadamard.specs.Passes.{rowSizes, blockSizes}
 use Rattle.hadamard.proofs.Tiles.{row-most}
 use Rattle.hadamard.proofs.had_4x4.sum.Statement.{statement}
 use Rattle.hadamard.proofs.had_4x4.sum.Tie as tie
@@ -46,7 +46,7 @@ loop-again : tie.Need-loop-again Inv-loop μ-loop
 loop-again c = summed-step (c .before .before .before .loop .inv) (omega arith) (c .row-sum .ensures)
 
 returns : tie.Need-returns Inv-loop μ-loop
-unfolding sizes
+unfolding blockSizes
 returns c = summed-end (c .before .loop .inv) (omega arith)
 
 pub sum-spec : {M : Type 1} → statement M

@@ -1,7 +1,7 @@
 -- `hadamard::had_8x8::column_pass` meets its contract. Assumes nothing.
 use mathlib.Core.Path.{sym, subst}
-use Rattle.hadamard.specs.Passes.{Small}
-use Rattle.hadamard.proofs.Tiles.{passed-small}
+use Rattle.hadamard.specs.Passes.{BlockWithin}
+use Rattle.hadamard.proofs.Tiles.{passed-within}
 use Rattle.hadamard.proofs.had_8x8.column_pass.Statement.{statement}
 use Rattle.hadamard.proofs.had_8x8.column_pass.Tie as tie
 
@@ -11,7 +11,7 @@ pass-requires c κs = c .pre
 returns : tie.Need-returns
 returns c = record {
   is = c .pass .ensures;
-  small = subst (Small 2097152) (sym (c .pass .ensures)) (passed-small 8 262144 (c .before .args .m) (c .before .pre));
+  within = subst (BlockWithin 2097152) (sym (c .pass .ensures)) (passed-within 8 262144 (c .before .args .m) (c .before .pre));
 }
 
 pub column-pass-spec : {M : Type 1} → statement M
