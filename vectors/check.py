@@ -11,6 +11,11 @@ from cases import errors
 from refusals import refusal, refused_line
 
 
+def text(path):
+    """A file as it is: one of its lines ends with a carriage return."""
+    return path.read_bytes().decode()
+
+
 def said(line):
     """What `calls` has to write for a line of a file without faults in its form."""
     if line.startswith('#'):
@@ -26,9 +31,9 @@ def said(line):
 def main(crate):
     names = Path(crate, 'args').read_text().split()
     assert sorted(names) == sorted(p.name for p in Path(crate, 'data').iterdir()), 'args and data name other files'
-    stdout = Path(crate, 'stdout').read_text()
+    stdout = text(Path(crate, 'stdout'))
     broken, answers = errors.lines_and_answers(names[-1])
-    assert Path(crate, 'data', names[-1]).read_text() == broken and stdout.endswith(answers), f'{names[-1]} is not what cases/errors.py says'
+    assert text(Path(crate, 'data', names[-1])) == broken and stdout.endswith(answers), f'{names[-1]} is not what cases/errors.py says'
     expected = iter(stdout[:len(stdout) - len(answers)].splitlines())
     wrong, seen = 0, Counter()
     for name in names[:-1]:

@@ -3,6 +3,7 @@
 An accepted call is answered by the Rust, a refused one by refusals.py. No answer comes from the library."""
 import subprocess
 import sys
+from itertools import chain
 from pathlib import Path
 
 import lines
@@ -10,7 +11,7 @@ from cases import distortion, errors, numbers, refused, transform
 from refusals import AREA, blocks, refusal, refused_line
 
 FILES = ('numbers', 'transform', 'offsets', 'distortion', 'far_edges', 'refusals')
-MOST = 8192  # the longest buffer
+MOST = 8192  # calls with a longer buffer are left out
 HEADS = {
     'numbers': "document 01's numbers to meet",
     'transform': 'scale, dequantizer, stages, jobs and sub-blocks that are accepted; offsets of jobs are 0 or half of 2^shift',
@@ -29,7 +30,10 @@ def other_offset(c):
 
 
 def far_edge(c, found):
-    return found == (AREA, None) and c['call'] in ('ssd_16i', 'sad_16b', 'sad_bi_16b') and any(b.edges and b.past() for b in blocks(c))
+    """AREA for nothing but a reference past its right or bottom edge"""
+    if found != (AREA, None) or c['call'] not in ('ssd_16i', 'sad_16b', 'sad_bi_16b'):
+        return False
+    return not any(b.malformed() if b.edges else b.outside() for b in blocks(c))
 
 
 def file_of(c, found):
@@ -42,6 +46,17 @@ def file_of(c, found):
     return 'transform' if c['call'] in ('scale', 'dquant', 'itxb0', 'itxb1', 'job', 'sub_block') else 'distortion'
 
 
+def by_hand():
+    """The groups of by_hand.txt: a comment is the title of the calls below it."""
+    groups = []
+    for line in (Path(__file__).parent / 'by_hand.txt').read_text().splitlines():
+        if line.startswith('#'):
+            groups.append((line[1:].strip(), []))
+        elif line.strip():
+            groups[-1][1].append(lines.parse(line))
+    return groups
+
+
 def sorted_out():
     """For each file its lines, as (line, call or None, what refusals.py found)."""
     files = {f: [('# ' + HEADS[f], None, None)] for f in FILES}
@@ -51,21 +66,19 @@ def sorted_out():
         for line, _ in calls:
             c = lines.parse(line)
             files['numbers'].append((line, c, refusal(c)))
-    for part in (transform, distortion, refused):
-        for title, calls in part.groups():
-            last = set()
-            for c in calls:
-                line = lines.write(c)
-                assert all(len(v) <= MOST for v in c.values() if isinstance(v, list)), 'a buffer is too long'
-                if line in seen:
-                    continue
-                seen.add(line)
-                found = refusal(c)
-                f = file_of(c, found)
-                if f not in last:
-                    files[f].append(('# ' + title, None, None))
-                    last.add(f)
-                files[f].append((line, c, found))
+    for title, calls in chain(transform.groups(), distortion.groups(), refused.groups(), by_hand()):
+        headed = set()
+        for c in calls:
+            line = lines.write(c)
+            if line in seen or any(len(v) > MOST for v in c.values() if isinstance(v, list)):
+                continue
+            seen.add(line)
+            found = refusal(c)
+            f = file_of(c, found)
+            if f not in headed:
+                files[f].append(('# ' + title, None, None))
+                headed.add(f)
+            files[f].append((line, c, found))
     return files
 
 
