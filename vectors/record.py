@@ -12,6 +12,7 @@ from refusals import AREA, blocks, refusal, refused_line
 
 FILES = ('numbers', 'transform', 'offsets', 'distortion', 'far_edges', 'refusals')
 MOST = 8192  # calls with a longer buffer are left out
+MOST_WRITTEN = 2**20  # `rt try` stops a program that writes more bytes
 HEADS = {
     'numbers': "document 01's numbers to meet",
     'transform': 'scale, dequantizer, stages, jobs and sub-blocks that are accepted; offsets of jobs are 0 or half of 2^shift',
@@ -100,7 +101,9 @@ def main(answer, crate):
     broken, said = errors.lines_and_answers('errors.txt')
     (data / 'errors.txt').write_text(broken)
     Path(crate, 'args').write_text(''.join(f'{f}.txt\n' for f in (*FILES, 'errors')))
-    Path(crate, 'stdout').write_text(''.join(line + '\n' for f in FILES for line in expected[f]) + said)
+    stdout = ''.join(line + '\n' for f in FILES for line in expected[f]) + said
+    assert len(stdout) <= MOST_WRITTEN, f'{len(stdout)} bytes are more than rt try takes'
+    Path(crate, 'stdout').write_text(stdout)
     count = sum(c is not None for f in FILES for _, c, _ in files[f])
     print(f'record.py: {count} calls, {len(accepted)} of them accepted and answered by the Rust')
 

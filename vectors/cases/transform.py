@@ -86,8 +86,8 @@ def stages(r):
             for t in (table(n, k, c) for k in range(n))], [0] * n) for c in (0, n // 2, n - 1) for s in (1, -1)]
     for size in range(1, 7):
         n = 2**size
-        yield f'itxb1: size {n}, the whole table out of one call at shift 0, and from -1', [stage(True, size, size,
-            [v * (k == j) for k in range(n) for j in range(n)], [-5] * (n * n + 1), 0) for v in (1, -1)]
+        yield f'itxb1: size {n}, the whole table out of one call at shift 0, of the smaller ones from -1 too', [stage(True, size, size,
+            [v * (k == j) for k in range(n) for j in range(n)], [-5] * (n * n + 1), 0) for v in (1, -1)[:2 if size < 5 else 1]]
         yield f'itxb1: size {n}, shift 0, nothing clipped', [stage_two(r, size, line, 0, line % 2, 1, any_, -m, m)
             for line in ((0, 0, 1, 2) if size < 5 else (0, 1)) for m in (max(1, 32767 // (90 * n)),)] + [stage_two(r, size, 0, 0, 0, 0, how, 0,
             300 // n) for how in (sparse, 'one')]
@@ -126,13 +126,12 @@ def jobs(r):
         (1, 1, 1, 5, 14, 32, 6, 12), (1, 1, 5, 1, 15, 32, 6, 12), (2, 0, 1, 6, 16, 32, 6, 12, sparse), (0, 2, 6, 1, 17, 32, 6, 12, sparse),
         (1, 2, 4, 3, 20, 32, 6, 12, sparse), (1, 2, 3, 4, 21, 32, 6, 12, sparse), (0, 0, 4, 4, 29, 32, 6, 12, sparse, *wide),
         (3, 1, 4, 4, 18, 32, 6, 12), (1, 3, 5, 3, 19, 32, 6, 10), (3, 1, 3, 5, 11, 32, 6, 11), (5, 2, 6, 2, 10, 32, 6, 12, any_, *wide),
-        (2, 5, 2, 6, 9, 32, 6, 12, any_, *wide), (1, 1, 5, 5, 22, 32, 6, 12, sparse), (7, 3, 3, 3, 29, 32, 6, 12),
-        (0, 0, 6, 6, 12, 32, 6, 12, sparse, *wide),
+        (2, 5, 2, 6, 9, 32, 6, 12, any_, *wide), (7, 3, 3, 3, 29, 32, 6, 12),
     ]]
     yield 'job: every shape', [job(r, (lw + lh) % 3, (lw * lh) % 3, lw, lh, 20 + 3 * lw + 2 * lh, HALF[7], 7, 12, any_ if lw + lh < 7 else sparse)
         for lw in logs for lh in logs]
-    yield 'job: every shape at stage shift 0, nothing clipped', [given_job(1, lw, lh, 4, HALF[6], 6, 0, [5] + one(r, 2**(lw + lh)) + [6])
-        for lw in logs for lh in logs]
+    yield 'job: shapes at stage shift 0, nothing clipped', [given_job(1, lw, lh, 4, HALF[6], 6, 0, [5] + one(r, 2**(lw + lh)) + [6])
+        for lw in logs for lh in logs if lw + lh < 10 or lw == lh == 6]
     yield 'job: every qp', [job(r, 1, 1, 2, 1, qp, HALF[5 + qp // 6], 5 + qp // 6, 11, any_, -900, 900) for qp in range(64)]
     yield 'job: every dequantization shift, offset 0 and half', [job(r, 0, 1, 1, 2, (s * 5) % 64, o, s, 12, any_, *wide) for s in range(32)
         for o in sorted({0, HALF[s]})]
@@ -141,8 +140,7 @@ def jobs(r):
     yield 'job: the same block at every start of a buffer that it fits in', [given_job(s, 2, 1, 22, HALF[6], 6, 12, list(range(-6, 7)))
         for s in range(6)]
     yield 'job: in a long buffer, to its last sample', [given_job(8188, 1, 1, 30, HALF[6], 6, 10, [0] * 8188 + [100, -50, 25, 3]),
-        given_job(4096, 6, 6, 28, HALF[6], 6, 12, [1] * 4096 + fill(r, few, 4096, -60, 60)),
-        given_job(0, 6, 6, 28, HALF[6], 6, 12, fill(r, few, 4096, -60, 60) + [-1] * 100)]
+        given_job(100, 6, 6, 28, HALF[6], 6, 12, [1] * 100 + fill(r, few, 4096, -60, 60))]
 
 
 def one(r, n):
@@ -165,7 +163,7 @@ def sub_blocks(r):
         (70, 4, 2, 1024, 11, 12, (t, 0, 53), (f, 17, 50), (f, 30, 51), sparse), (66, 5, 2, 1024, 11, 12, (f, 0, 53), (t, 0, 54), (t, 32, 55), sparse),
         (66, 2, 5, 1024, 11, 12, (f, 0, 53), (t, 32, 56), (t, 0, 57), sparse), (130, 7, 2, 1024, 11, 12, (f, 0, 53), (t, 2, 58), (f, 64, 59), sparse),
         (130, 2, 7, 1024, 11, 12, (f, 0, 53), (f, 2, 58), (t, 2, 59), sparse),
-        (4097, 7, 7, 32, 6, 12, (f, 0, 53), (t, 1, 20), (f, 64, 59), few), (4096, 7, 7, 32, 6, 12, (f, 0, 53), (f, 1, 20), (t, 0, 21), few)]]
+        (4097, 7, 7, 32, 6, 12, (f, 0, 53), (t, 1, 20), (f, 64, 59), few)]]
     yield 'sub_block: each set of flags; what is not flagged holds numbers that nothing accepts', [
         sub_block(r, 26, 2, 2, 32, 6, 12, *[(bool(flags >> k & 1), s, q) if flags >> k & 1 else (f, MAX - k, 255 - k) for k,
             (s, q) in enumerate(((1, 22), (18, 28), (22, 34)))]) for flags in range(8)]
@@ -174,9 +172,10 @@ def sub_blocks(r):
     orders = [(0, 16, 20), (0, 20, 16), (4, 0, 20), (8, 0, 4), (8, 4, 0), (4, 20, 0)]
     yield 'sub_block: the three areas side by side in every order', [sub_block(r, 24, 2, 2, 32, 6, 12, (t, a, 22), (t, b, 27), (t, c, 33)) for a, b,
         c in orders]
-    yield 'sub_block: every shape of luma with both chromas', [c for lw in range(2, 7) for lh in range(2, 7) for n in (2**(lw + lh),) for c in [
+    yield 'sub_block: shapes of luma with both chromas', [
         sub_block(r, n + n // 2 + 2, lw, lh, HALF[7], 7, 12, (t, n // 4 + 1, 20 + lw), (t, 1, 21 + lh), (t, n + n // 4 + 2, 30),
-            any_ if lw + lh < 7 else few)]]
+            any_ if lw + lh < 7 else few)
+        for lw in range(2, 7) for lh in range(2, 7) if lw + lh < 9 or lw == lh == 6 for n in (2**(lw + lh),)]
     bare = lambda lw, lh: dict(sub_block(r, n := 2**(lw + lh), lw, lh, 32, 6, 0, (t, 0, 4), (t, n, 4), (t, n + n // 4, 4)),
         COEF=one(r, n) + one(r, n // 4) + one(r, n // 4))
     yield 'sub_block: stage shift 0, nothing clipped', [bare(*s) for s in ((2, 2), (2, 2), (2, 3), (3, 2), (3, 3), (4, 2), (2, 5), (5, 3), (3, 6),
