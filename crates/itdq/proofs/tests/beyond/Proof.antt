@@ -1,0 +1,16 @@
+-- `itdq::tests::beyond` meets its contract. Assumes nothing.
+use borrow.Author.Tests.{lt-ltb, le-ltb}
+use mathlib.Core.Path.{_≡_, refl}
+use Rattle.itdq.proofs.tests.beyond.Statement.{statement}
+use Rattle.itdq.proofs.tests.beyond.Tie as tie
+use Rattle.itdq.proofs.tests.beyond.Reads as reads
+use Rattle.itdq.proofs.tests.beyond.Lts as lts
+
+returns : tie.Need-returns
+returns c = rw (lt-ltb _ _ (c .if1 .taken))
+
+returns-2 : tie.Need-returns-2
+returns-2 c = rw (le-ltb _ _ (c .if1 .left))
+
+pub beyond-spec : {M : Type 1} → statement M
+beyond-spec = tie.close (tie.spec returns returns-2)

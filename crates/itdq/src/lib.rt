@@ -1,0 +1,2 @@
+// The block job and the sub-block call. Their tests and the work on one area stand in private modules.
+mod tests;
