@@ -1,4 +1,6 @@
 -- Laws that the proofs of this crate share.
 pub mod Laws
+pub mod Matches
 pub mod Areas
 pub mod Overlaps
+pub mod Blocks

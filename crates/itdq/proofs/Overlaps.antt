@@ -9,18 +9,17 @@ use mathlib.Core.List.{List, [], _∷_}
 use lib.Dec.{ltb}
 use borrow.Author.Tests.{ltb-true, ltb-false, lt-ltb}
 use Rattle.order.specs.Positions.{row, shared}
-use Rattle.order.proofs.Rows.{shared-row-none, rows-packed}
+use Rattle.order.proofs.Rows.{shared-row-none}
 use Rattle.order.proofs.Tests.{by-test, same-test, never-true}
 use Rattle.evc.specs.declared.Job.{Job}
 use Rattle.evc.specs.declared.SubBlock.{SubBlock}
 use Rattle.evc.specs.declared.Component.the-variants.{U, «V»}
 use Rattle.evc.specs.Answers.{accepted, refusedAt}
 use Rattle.evc.specs.Tests.{samplesOf}
-use Rattle.evc.specs.Jobs.{width, height, area}
 use Rattle.evc.specs.SubBlocks.{isSome, luma, chroma}
 use Rattle.itdq.specs.Ranges.{Sides}
 use Rattle.itdq.specs.Pairs.{meets, pairReply}
-use Rattle.itdq.proofs.Areas.{samples-of}
+use Rattle.itdq.proofs.Areas.{area-run}
 
 some-or-none : (l : List ℕ) → (l ≡ [] → ⊥) → isSome l ≡ true
 some-or-none [] h = absurd (h refl)
@@ -47,10 +46,6 @@ second-lower a m b k h u v =
     meets-as a m b k u v (ltb (a - b) k)
     (λ t. let l = ltb-true (a - b) k t in ⊎-elim (λ q. omega arith) (λ q. omega arith))
     (λ t. let l = ltb-false (a - b) k t in inr (omega arith))
-
--- the area of a job is one run of samples
-pub area-run : (j : Job) → area j ≡ row (j .start) (samplesOf (j .logw) (j .logh))
-area-run j = rows-packed (j .start) (width j) (height j) ∙ rw (samples-of j)
 
 pub meets-runs : (j k : Job) → meets j k ≡ isSome (shared (row (j .start) (samplesOf (j .logw) (j .logh))) (row (k .start) (samplesOf (k .logw) (k .logh))))
 unfolding meets

@@ -1,0 +1,25 @@
+use borrow.Author.Needs.{needs}
+use Rattle.itdq.proofs.sub_block.component.Statement.{statement}
+use Rattle.itdq.proofs.sub_block.component.Tie as tie
+use Rattle.itdq.proofs.sub_block.component.Reads as reads
+use Rattle.itdq.proofs.sub_block.component.Lts as lts
+use Rattle.itdq.proofs.job.evc_itdq_job.Reads as evc-itdq-job-reads
+
+
+evc-itdq-job-requires : tie.Need-evc-itdq-job-requires
+evc-itdq-job-requires c κs = search needs
+
+
+same-length : tie.Need-same-length
+same-length c = search needs
+
+
+returns : tie.Need-returns
+returns c = ?
+
+
+returns-2 : tie.Need-returns-2
+returns-2 c = search needs
+
+pub component-spec : {M : Type 1} → statement M
+component-spec = tie.close (tie.spec evc-itdq-job-requires same-length returns returns-2)
