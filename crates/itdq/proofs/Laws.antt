@@ -3,13 +3,14 @@ use Prim.Native.Nat.{ℕ, zero, suc, _^_, _≤_}
 use native.Mathlib.Omega.{arith}
 use lib.ListN.{length}
 use lib.IntN.{ℤ}
-use mathlib.Core.Path.{_≡_, sym, _∙_}
+use mathlib.Core.Path.{_≡_, refl, sym, _∙_}
 use mathlib.Core.Bool.{Bool, true, false}
-use mathlib.Core.List.{List, [], _∷_}
+use mathlib.Core.List.{List, [], _∷_, _++_}
 use borrow.Author.Tests.{lt-ltb, le-ltb}
 use Rattle.evc.specs.declared.Refusal.{Refusal}
 use Rattle.evc.specs.declared.Refusal.the-variants.{Size}
 use Rattle.integers.proofs.Written.{written-all}
+use Rattle.order.specs.Jobs.{Kind, after, jobs}
 use Rattle.evc.specs.Answers.{number, value}
 use Rattle.evc.specs.Tests.{Test, first, samplesOf}
 use Rattle.evc.specs.Dequantizer.{scale, scaleReply}
@@ -62,3 +63,8 @@ stage-two-whole T logn logl shift x out a b c s e f =
     let q : samplesOf logn logl ≤ length out = omega arith in
     let z = first-none (stageTwoTests (length x) (length out) logn logl shift) (inside-no 1 6 logn a b, (le-ltb _ _ c, (le-ltb _ _ s, (le-ltb _ _ p, (le-ltb _ _ q, tt))))) in
     rw (z, e) (written-all (samplesOf logn logl) (stageTwoAt T (2 ^ logn) (2 ^ logl) shift x) out (sym f))
+
+-- ---- for order (Steps): one list of jobs after another
+pub jobs-append : {A J : Type 0} (w : Kind A J) (js ks : List J) (b : List A) → jobs w (js ++ ks) b ≡ jobs w ks (jobs w js b)
+jobs-append w [] ks b = refl
+jobs-append w (j ∷ js) ks b = jobs-append w js ks (after w j b)

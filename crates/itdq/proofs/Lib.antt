@@ -2,5 +2,6 @@
 pub mod Laws
 pub mod Matches
 pub mod Areas
-pub mod Overlaps
 pub mod Blocks
+pub mod Overlaps
+pub mod SubTests

@@ -30,7 +30,14 @@ fn steps(part: &mut [i16], between: &mut [i32], job: Job)
     ensures { λ _. ⌜ now (part .exit) ≡ block job (now (part .entry)) ⌝ }
 {
     let by = scale_of(job.qp);
-    dquant::evc_dquant(&mut part[..], job.logw, job.logh, by, job.offset, job.dqshift);
+    dquant::evc_dquant(
+        &mut part[..],
+        job.logw,
+        job.logh,
+        by,
+        job.offset,
+        job.dqshift,
+    );
     crate::stub::itxb0(&part[..], &mut between[..], job.logh, job.logw);
     crate::stub::itxb1(&between[..], &mut part[..], job.logw, job.logh, job.itshift);
 }

@@ -16,14 +16,11 @@ use Rattle.itdq.proofs.block.transform.Reads as transform-reads
 use Rattle.itdq.proofs.tests.job_tests.Reads as job-tests-reads
 use Rattle.itdq.proofs.tests.samples.Reads as samples-reads
 
-
 job-tests-requires : tie.Need-job-tests-requires
 job-tests-requires c κs = search needs
 
-
 enum-told : tie.Need-enum-told
 enum-told c = search needs
-
 
 -- the tests have passed
 passed : (c : tie.After-enum-told) → jobNumber (length (c .before .before .before .args .coef .now)) (c .before .before .before .args .job) ≡ 0

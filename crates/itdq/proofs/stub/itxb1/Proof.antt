@@ -3,7 +3,6 @@ use Rattle.itdq.proofs.stub.itxb1.Tie as tie
 use Rattle.itdq.proofs.stub.itxb1.Reads as reads
 use Rattle.itdq.proofs.stub.itxb1.Lts as lts
 
-
 returns : tie.Need-returns
 returns c = ?
 

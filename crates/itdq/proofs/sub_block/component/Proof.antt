@@ -1,3 +1,6 @@
+-- `itdq::sub_block::component` meets its contract. Assumes nothing.
+use mathlib.Core.Path.{_≡_, _∙_}
+use Rattle.evc.specs.Jobs.{jobExit}
 use borrow.Author.Needs.{needs}
 use Rattle.itdq.proofs.sub_block.component.Statement.{statement}
 use Rattle.itdq.proofs.sub_block.component.Tie as tie
@@ -5,18 +8,15 @@ use Rattle.itdq.proofs.sub_block.component.Reads as reads
 use Rattle.itdq.proofs.sub_block.component.Lts as lts
 use Rattle.itdq.proofs.job.evc_itdq_job.Reads as evc-itdq-job-reads
 
-
 evc-itdq-job-requires : tie.Need-evc-itdq-job-requires
 evc-itdq-job-requires c κs = search needs
-
 
 same-length : tie.Need-same-length
 same-length c = search needs
 
-
 returns : tie.Need-returns
-returns c = ?
-
+unfolding jobExit
+returns c = c .before .evc-itdq-job .ensures .1 ∙ rw (c .before .before .before .if1 .taken)
 
 returns-2 : tie.Need-returns-2
 returns-2 c = search needs
