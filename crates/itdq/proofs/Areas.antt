@@ -1,6 +1,6 @@
 -- The area of a job as the code computes it: its size by the sum of its logs, its end without forming a sum; the area as one run of samples;
 -- what the job lends of its buffer, and what it leaves. Assumes nothing.
-use Prim.Native.Nat.{ℕ, _+_, _-_, _*_, _^_, _≤_, _<_}
+use Prim.Native.Nat.{ℕ, _+_, _-_, _*_, _≤_, _<_}
 use native.Mathlib.Nat.{mul-comm, add-sub-cancel-left}
 use native.Mathlib.Omega.{arith}
 use lib.Pow.{pow-add}
@@ -11,7 +11,7 @@ use lib.ListN.{length, take, drop, length-drop}
 use lib.Seq.{length-take-le}
 use lib.IntN.{ℤ, pos}
 use lib.Dec.{ltb}
-use borrow.Author.Tests.{ltb-true, ltb-false, lt-ltb, le-ltb}
+use borrow.Author.Tests.{ltb-true, lt-ltb}
 use Rattle.order.specs.Positions.{row}
 use Rattle.order.proofs.Tests.{same-test}
 use Rattle.order.proofs.Rows.{rows-packed, change-row}

@@ -3,7 +3,7 @@ use Prim.Native.Nat.{ℕ, _+_, _^_, _≤_}
 use native.Mathlib.Nat.{add-comm}
 use native.Mathlib.Omega.{arith}
 use lib.Pow.{pow-mono}
-use mathlib.Core.Path.{_≡_, sym, ap, _∙_}
+use mathlib.Core.Path.{_≡_, ap, _∙_}
 use mathlib.Core.List.{List, map}
 use lib.ListN.{length, length-map}
 use lib.IntN.{ℤ}
@@ -12,7 +12,7 @@ use Rattle.evc.specs.declared.Job.{Job}
 use Rattle.evc.specs.Tests.{samplesOf}
 use Rattle.evc.specs.Table.{tm}
 use Rattle.evc.specs.Dequantizer.{scale, dequantized, dquantExit}
-use Rattle.evc.specs.Stages.{itxb0Exit, itxb1Exit, stageOne, stageTwo}
+use Rattle.evc.specs.Stages.{itxb0Exit, itxb1Exit, stageOne}
 use Rattle.evc.specs.Jobs.{width, height, block}
 use Rattle.dquant.proofs.Calls.{dquant-whole}
 use Rattle.itdq.specs.Ranges.{Whole}

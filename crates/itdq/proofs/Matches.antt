@@ -11,7 +11,7 @@ use Rattle.evc.specs.declared.SubAnswer.{SubAnswer}
 use Rattle.evc.specs.declared.SubAnswer.the-variants as sub
 use Rattle.evc.specs.declared.Scale.{Scale}
 use Rattle.evc.specs.declared.Scale.the-variants as scaled
-use Rattle.evc.specs.Answers.{number, answerNumber, value, scaleReading, SubReply, accepted, refusedAt, subReading}
+use Rattle.evc.specs.Answers.{number, answerNumber, value, scaleReading, accepted, refusedAt, subReading}
 use Rattle.evc.proofs.Answer as Answer
 use Rattle.evc.proofs.SubAnswer as SubAnswer
 use Rattle.evc.proofs.Scale as Scale

@@ -2,15 +2,14 @@
 -- Assumes nothing.
 use Prim.Native.Nat.{ℕ, _+_, _-_, _≤_, _<_}
 use native.Mathlib.Omega.{arith}
-use mathlib.Core.Path.{_≡_, refl, sym, ap, _∙_}
+use mathlib.Core.Path.{_≡_, refl, sym, ap}
 use mathlib.Core.Logic.{_⊎_, inl, inr, ⊎-elim}
 use mathlib.Core.Bool.{Bool, true, false, _&&_, true≢false}
 use mathlib.Core.List.{List, [], _∷_}
 use lib.Dec.{ltb}
-use borrow.Author.Tests.{ltb-true, ltb-false, lt-ltb}
+use borrow.Author.Tests.{ltb-true, ltb-false}
 use Rattle.order.specs.Positions.{row, shared}
 use Rattle.order.proofs.Rows.{shared-row-none}
-use Rattle.order.proofs.Tests.{by-test, same-test, never-true}
 use Rattle.evc.specs.declared.Job.{Job}
 use Rattle.evc.specs.declared.SubBlock.{SubBlock}
 use Rattle.evc.specs.declared.Component.the-variants.{U, «V»}

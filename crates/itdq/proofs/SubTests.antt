@@ -16,7 +16,7 @@ use Rattle.evc.specs.declared.Component.the-variants.{Y, U, «V»}
 use Rattle.evc.specs.declared.Refusal.{Refusal}
 use Rattle.evc.specs.Answers.{number, SubReply, accepted, refusedAt}
 use Rattle.evc.specs.Tests.{Test, first}
-use Rattle.evc.specs.Jobs.{area, blockJobs}
+use Rattle.evc.specs.Jobs.{blockJobs}
 use Rattle.evc.specs.SubBlocks.{luma, chroma, lumaTests, chromaTests, overlap, given, subReply, subExit}
 use Rattle.evc.proofs.Tests.{number-some}
 use Rattle.evc.proofs.Jobs as Jobs

@@ -1,7 +1,7 @@
 // The tests of a job, which look at no buffer, only at its length. Document 01, "Refusal numbers, in the order they are tested".
 // Differs from the Rust in: it has no such tests; a bad call traps there.
 ghost use mathlib.Core.Path.{_≡_};
-ghost use Prim.Native.Nat.{_+_, _^_, _≤_};
+ghost use Prim.Native.Nat.{_+_, _≤_};
 ghost use lib.Dec.{ltb};
 ghost use Rattle.evc.specs.Answers.{answerNumber};
 ghost use Rattle.evc.specs.Tests.{first, outside, samplesOf};

@@ -4,9 +4,6 @@ use lib.Seq.{length-take-le}
 use borrow.Author.Needs.{needs}
 use Rattle.itdq.proofs.block.middle.Statement.{statement}
 use Rattle.itdq.proofs.block.middle.Tie as tie
-use Rattle.itdq.proofs.block.middle.Reads as reads
-use Rattle.itdq.proofs.block.middle.Lts as lts
-use Rattle.itdq.proofs.block.steps.Reads as steps-reads
 
 array-borrow-prefix-between : tie.Need-array-borrow-prefix-between
 array-borrow-prefix-between c = search needs

@@ -10,9 +10,6 @@ use Rattle.itdq.proofs.Matches.{not-refused}
 use borrow.Author.Needs.{needs}
 use Rattle.itdq.proofs.block.scale_of.Statement.{statement}
 use Rattle.itdq.proofs.block.scale_of.Tie as tie
-use Rattle.itdq.proofs.block.scale_of.Reads as reads
-use Rattle.itdq.proofs.block.scale_of.Lts as lts
-use Rattle.table.proofs.scale.Reads as scale-reads
 
 scale-requires : tie.Need-scale-requires
 scale-requires c κs = search needs

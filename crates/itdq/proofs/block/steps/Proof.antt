@@ -6,12 +6,6 @@ use Rattle.itdq.proofs.Blocks.{block-steps}
 use borrow.Author.Needs.{needs}
 use Rattle.itdq.proofs.block.steps.Statement.{statement}
 use Rattle.itdq.proofs.block.steps.Tie as tie
-use Rattle.itdq.proofs.block.steps.Reads as reads
-use Rattle.itdq.proofs.block.steps.Lts as lts
-use Rattle.dquant.proofs.evc_dquant.Reads as evc-dquant-reads
-use Rattle.itdq.proofs.block.scale_of.Reads as scale-of-reads
-use Rattle.itdq.proofs.stub.itxb0.Reads as itxb0-reads
-use Rattle.itdq.proofs.stub.itxb1.Reads as itxb1-reads
 
 scale-of-requires : tie.Need-scale-of-requires
 scale-of-requires c κs = search needs

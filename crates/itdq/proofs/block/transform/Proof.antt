@@ -3,11 +3,6 @@ use Rattle.itdq.proofs.Blocks.{whole-most}
 use borrow.Author.Needs.{needs}
 use Rattle.itdq.proofs.block.transform.Statement.{statement}
 use Rattle.itdq.proofs.block.transform.Tie as tie
-use Rattle.itdq.proofs.block.transform.Reads as reads
-use Rattle.itdq.proofs.block.transform.Lts as lts
-use Rattle.itdq.proofs.block.large.Reads as large-reads
-use Rattle.itdq.proofs.block.middle.Reads as middle-reads
-use Rattle.itdq.proofs.block.small.Reads as small-reads
 
 small-requires : tie.Need-small-requires
 small-requires c κs = search needs

@@ -2,9 +2,6 @@
 use borrow.Author.Needs.{needs}
 use Rattle.itdq.proofs.components.chroma_job.Statement.{statement}
 use Rattle.itdq.proofs.components.chroma_job.Tie as tie
-use Rattle.itdq.proofs.components.chroma_job.Reads as reads
-use Rattle.itdq.proofs.components.chroma_job.Lts as lts
-use Rattle.itdq.proofs.components.less.Reads as less-reads
 
 less-requires : tie.Need-less-requires
 less-requires c κs = search needs

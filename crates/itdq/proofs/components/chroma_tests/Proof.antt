@@ -1,13 +1,9 @@
 -- `itdq::components::chroma_tests` meets its contract: a log within 2..7 means a side's own within 1..6. Assumes nothing.
-use mathlib.Core.Path.{_≡_, refl, _∙_}
+use mathlib.Core.Path.{_∙_}
 use native.Mathlib.Omega.{arith}
 use borrow.Author.Needs.{needs}
 use Rattle.itdq.proofs.components.chroma_tests.Statement.{statement}
 use Rattle.itdq.proofs.components.chroma_tests.Tie as tie
-use Rattle.itdq.proofs.components.chroma_tests.Reads as reads
-use Rattle.itdq.proofs.components.chroma_tests.Lts as lts
-use Rattle.itdq.proofs.components.chroma_job.Reads as chroma-job-reads
-use Rattle.itdq.proofs.tests.tests_as.Reads as tests-as-reads
 
 chroma-job-requires : tie.Need-chroma-job-requires
 chroma-job-requires c κs = search needs

@@ -1,12 +1,8 @@
 -- `itdq::components::luma_tests` meets its contract: a log within 1..6 is the side's own. Assumes nothing.
-use mathlib.Core.Path.{_≡_, refl, _∙_}
+use mathlib.Core.Path.{_∙_}
 use borrow.Author.Needs.{needs}
 use Rattle.itdq.proofs.components.luma_tests.Statement.{statement}
 use Rattle.itdq.proofs.components.luma_tests.Tie as tie
-use Rattle.itdq.proofs.components.luma_tests.Reads as reads
-use Rattle.itdq.proofs.components.luma_tests.Lts as lts
-use Rattle.itdq.proofs.components.luma_job.Reads as luma-job-reads
-use Rattle.itdq.proofs.tests.tests_as.Reads as tests-as-reads
 
 luma-job-requires : tie.Need-luma-job-requires
 luma-job-requires c κs = search needs

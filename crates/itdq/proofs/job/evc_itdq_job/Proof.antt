@@ -10,11 +10,6 @@ use Rattle.itdq.proofs.Areas.{area-inside, lent-whole, lent-done}
 use borrow.Author.Needs.{needs}
 use Rattle.itdq.proofs.job.evc_itdq_job.Statement.{statement}
 use Rattle.itdq.proofs.job.evc_itdq_job.Tie as tie
-use Rattle.itdq.proofs.job.evc_itdq_job.Reads as reads
-use Rattle.itdq.proofs.job.evc_itdq_job.Lts as lts
-use Rattle.itdq.proofs.block.transform.Reads as transform-reads
-use Rattle.itdq.proofs.tests.job_tests.Reads as job-tests-reads
-use Rattle.itdq.proofs.tests.samples.Reads as samples-reads
 
 job-tests-requires : tie.Need-job-tests-requires
 job-tests-requires c κs = search needs

@@ -1,14 +1,10 @@
 -- `itdq::pairs::overlap` meets its contract. Assumes nothing.
-use mathlib.Core.Path.{_≡_, sym, _∙_}
+use mathlib.Core.Path.{sym, _∙_}
 use lib.Pow.{pow-pos}
 use Rattle.itdq.proofs.Overlaps.{meets-runs}
 use borrow.Author.Needs.{needs}
 use Rattle.itdq.proofs.pairs.overlap.Statement.{statement}
 use Rattle.itdq.proofs.pairs.overlap.Tie as tie
-use Rattle.itdq.proofs.pairs.overlap.Reads as reads
-use Rattle.itdq.proofs.pairs.overlap.Lts as lts
-use Rattle.itdq.proofs.pairs.runs_meet.Reads as runs-meet-reads
-use Rattle.itdq.proofs.tests.samples.Reads as samples-reads
 
 samples-requires : tie.Need-samples-requires
 samples-requires c κs = let s = c .before .before .pre .0 (c .before .if1 .taken) in (s .w6, s .h6)

@@ -4,11 +4,6 @@ use Rattle.itdq.proofs.Overlaps.{same-sides, pair-yu, pair-yv, pair-uv,
 use borrow.Author.Needs.{needs}
 use Rattle.itdq.proofs.pairs.pair_tests.Statement.{statement}
 use Rattle.itdq.proofs.pairs.pair_tests.Tie as tie
-use Rattle.itdq.proofs.pairs.pair_tests.Reads as reads
-use Rattle.itdq.proofs.pairs.pair_tests.Lts as lts
-use Rattle.itdq.proofs.components.chroma_job.Reads as chroma-job-reads
-use Rattle.itdq.proofs.components.luma_job.Reads as luma-job-reads
-use Rattle.itdq.proofs.pairs.overlap.Reads as overlap-reads
 
 luma-job-requires : tie.Need-luma-job-requires
 luma-job-requires c κs = search needs

@@ -3,8 +3,6 @@ use Rattle.itdq.proofs.Overlaps.{first-lower, second-lower}
 use borrow.Author.Needs.{needs}
 use Rattle.itdq.proofs.pairs.runs_meet.Statement.{statement}
 use Rattle.itdq.proofs.pairs.runs_meet.Tie as tie
-use Rattle.itdq.proofs.pairs.runs_meet.Reads as reads
-use Rattle.itdq.proofs.pairs.runs_meet.Lts as lts
 
 sub-result : tie.Need-sub-result
 sub-result c = search needs

@@ -1,7 +1,5 @@
 use Rattle.itdq.proofs.stub.itxb0.Statement.{statement}
 use Rattle.itdq.proofs.stub.itxb0.Tie as tie
-use Rattle.itdq.proofs.stub.itxb0.Reads as reads
-use Rattle.itdq.proofs.stub.itxb0.Lts as lts
 
 returns : tie.Need-returns
 returns c = ?

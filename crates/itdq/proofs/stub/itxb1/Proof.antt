@@ -1,7 +1,5 @@
 use Rattle.itdq.proofs.stub.itxb1.Statement.{statement}
 use Rattle.itdq.proofs.stub.itxb1.Tie as tie
-use Rattle.itdq.proofs.stub.itxb1.Reads as reads
-use Rattle.itdq.proofs.stub.itxb1.Lts as lts
 
 returns : tie.Need-returns
 returns c = ?

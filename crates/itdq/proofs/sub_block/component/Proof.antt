@@ -1,12 +1,9 @@
 -- `itdq::sub_block::component` meets its contract. Assumes nothing.
-use mathlib.Core.Path.{_≡_, _∙_}
+use mathlib.Core.Path.{_∙_}
 use Rattle.evc.specs.Jobs.{jobExit}
 use borrow.Author.Needs.{needs}
 use Rattle.itdq.proofs.sub_block.component.Statement.{statement}
 use Rattle.itdq.proofs.sub_block.component.Tie as tie
-use Rattle.itdq.proofs.sub_block.component.Reads as reads
-use Rattle.itdq.proofs.sub_block.component.Lts as lts
-use Rattle.itdq.proofs.job.evc_itdq_job.Reads as evc-itdq-job-reads
 
 evc-itdq-job-requires : tie.Need-evc-itdq-job-requires
 evc-itdq-job-requires c κs = search needs

@@ -1,17 +1,11 @@
 -- `itdq::sub_block::evc_sub_block_itdq2` meets its contract. Assumes nothing.
-use mathlib.Core.Path.{_≡_, sym, _∙_}
+use mathlib.Core.Path.{sym, _∙_}
 use Rattle.evc.proofs.SubBlocks.{sub-refused}
 use Rattle.itdq.proofs.Matches.{sub-done, sub-not-done}
 use Rattle.itdq.proofs.SubTests.{sub-left}
 use borrow.Author.Needs.{needs}
 use Rattle.itdq.proofs.sub_block.evc_sub_block_itdq2.Statement.{statement}
 use Rattle.itdq.proofs.sub_block.evc_sub_block_itdq2.Tie as tie
-use Rattle.itdq.proofs.sub_block.evc_sub_block_itdq2.Reads as reads
-use Rattle.itdq.proofs.sub_block.evc_sub_block_itdq2.Lts as lts
-use Rattle.itdq.proofs.components.chroma_job.Reads as chroma-job-reads
-use Rattle.itdq.proofs.components.luma_job.Reads as luma-job-reads
-use Rattle.itdq.proofs.sub_block.component.Reads as component-reads
-use Rattle.itdq.proofs.sub_block.sub_tests.Reads as sub-tests-reads
 
 sub-tests-requires : tie.Need-sub-tests-requires
 sub-tests-requires c κs = search needs

@@ -8,11 +8,6 @@ use Rattle.itdq.proofs.SubTests.{sub-y, sub-u, sub-v, sub-pairs, luma-s
 use borrow.Author.Needs.{needs}
 use Rattle.itdq.proofs.sub_block.sub_tests.Statement.{statement}
 use Rattle.itdq.proofs.sub_block.sub_tests.Tie as tie
-use Rattle.itdq.proofs.sub_block.sub_tests.Reads as reads
-use Rattle.itdq.proofs.sub_block.sub_tests.Lts as lts
-use Rattle.itdq.proofs.components.chroma_tests.Reads as chroma-tests-reads
-use Rattle.itdq.proofs.components.luma_tests.Reads as luma-tests-reads
-use Rattle.itdq.proofs.pairs.pair_tests.Reads as pair-tests-reads
 
 luma-tests-requires : tie.Need-luma-tests-requires
 luma-tests-requires c κs = search needs

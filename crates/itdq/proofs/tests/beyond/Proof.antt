@@ -1,10 +1,7 @@
 -- `itdq::tests::beyond` meets its contract. Assumes nothing.
 use borrow.Author.Tests.{lt-ltb, le-ltb}
-use mathlib.Core.Path.{_≡_, refl}
 use Rattle.itdq.proofs.tests.beyond.Statement.{statement}
 use Rattle.itdq.proofs.tests.beyond.Tie as tie
-use Rattle.itdq.proofs.tests.beyond.Reads as reads
-use Rattle.itdq.proofs.tests.beyond.Lts as lts
 
 returns : tie.Need-returns
 returns c = rw (lt-ltb _ _ (c .if1 .taken))

@@ -3,9 +3,6 @@ use borrow.Author.Needs.{needs}
 use Rattle.itdq.proofs.Areas.{past-short, past-left}
 use Rattle.itdq.proofs.tests.past_end.Statement.{statement}
 use Rattle.itdq.proofs.tests.past_end.Tie as tie
-use Rattle.itdq.proofs.tests.past_end.Reads as reads
-use Rattle.itdq.proofs.tests.past_end.Lts as lts
-use Rattle.itdq.proofs.tests.samples.Reads as samples-reads
 
 samples-requires : tie.Need-samples-requires
 samples-requires c κs = search needs

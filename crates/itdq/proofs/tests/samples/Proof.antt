@@ -6,8 +6,6 @@ use borrow.Author.Needs.{needs}
 use Rattle.integers.proofs.Bits.{one-shl}
 use Rattle.itdq.proofs.tests.samples.Statement.{statement}
 use Rattle.itdq.proofs.tests.samples.Tie as tie
-use Rattle.itdq.proofs.tests.samples.Reads as reads
-use Rattle.itdq.proofs.tests.samples.Lts as lts
 
 add-result : tie.Need-add-result
 add-result c = search needs

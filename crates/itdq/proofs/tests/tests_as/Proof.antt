@@ -1,6 +1,6 @@
 -- `itdq::tests::tests_as` meets its contract: each return by the tests that led there. Assumes nothing.
 use borrow.Author.Needs.{needs}
-use mathlib.Core.Path.{_≡_, sym, _∙_}
+use mathlib.Core.Path.{_≡_, sym}
 use mathlib.Core.Bool.{true, false}
 use mathlib.Core.List.{List}
 use lib.Dec.{ltb}
@@ -10,10 +10,6 @@ use Rattle.evc.proofs.Tests.{first-none, first-at, outside-no}
 use Rattle.itdq.proofs.Laws.{told, called}
 use Rattle.itdq.proofs.tests.tests_as.Statement.{statement}
 use Rattle.itdq.proofs.tests.tests_as.Tie as tie
-use Rattle.itdq.proofs.tests.tests_as.Reads as reads
-use Rattle.itdq.proofs.tests.tests_as.Lts as lts
-use Rattle.itdq.proofs.tests.beyond.Reads as beyond-reads
-use Rattle.itdq.proofs.tests.past_end.Reads as past-end-reads
 
 -- the call's tests
 abbrev tests : tie.Start → List Test
