@@ -10,7 +10,7 @@ ghost use Rattle.itdq.specs.Ranges.{Whole};
 use evc::Job;
 use evc::Scale;
 
-// The scale of a qp that has passed its test.
+// The scale of a qp that has passed its test, so that the second arm is never taken.
 fn scale_of(qp: u8) -> i32
     requires { ⌜ qp ≤ 63 ⌝ }
     ensures { λ r. ⌜ r ≡ scale qp ⌝ }
