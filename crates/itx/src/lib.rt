@@ -1,0 +1,3 @@
+// Both stages of the inverse transform. A line is gathered, its sums are made by halving, and they are stored.
+
+mod line;
