@@ -11,7 +11,7 @@ use lib.IntN.{ℤ, pos, _+ℤ_, _*ℤ_}
 use Rattle.integers.specs.Sum.{ofZ+}
 use Rattle.integers.proofs.Bound.{Within, within-mul, within-mono}
 use Rattle.integers.proofs.Sum.{sum-step, within-sum}
-use Rattle.itx.specs.Line.{rows, line, dot, odd, Table, Level}
+use Rattle.itx.specs.Line.{rows, line, dot, odd, Inputs, Table, Level}
 
 -- the bound on a term
 abbrev pub term : ℕ
@@ -34,18 +34,14 @@ pub odd-step : (T : ℕ → ℕ → ℤ) (q k n : ℕ) (x : ℕ → ℤ) → odd
 unfolding odd
 odd-step T q k n x = rw (odd-number k, add-one k) (sym (sum-step ofZ+ k _))
 
-module _ {t x : List ℤ} {w N : ℕ} (g : Table t w x N) where
+module _ {t x : List ℤ} {w N : ℕ} (g : Table t w N) (v : Inputs x N) where
   pub term-within : (k n : ℕ) → k < N → n < N → Within term (rows t w k n *ℤ line x k)
   term-within k n hk hn =
-      within-mul {m = 128} {n = 2147483648} {x = rows t w k n} {y = line x k} (record { bound = g .bytes k n hk hn }) (record { bound = g .small k hk .small })
+      within-mul {m = 128} {n = 2147483648} {x = rows t w k n} {y = line x k} (record { bound = g .bytes k n hk hn }) (record { bound = v .input k hk .small })
 
   pub dot-within : (p m n : ℕ) → 0 < p → m * p ≤ N → n < N → Within (m * term) (dot (rows t w) p m n (line x))
   unfolding dot
   dot-within p m n s r hn = within-sum m term _ (λ k h. term-within (k * p) n (multiple k m p N h s r) hn)
-
-  -- a line has at most 64 inputs
-  pub most : 0 < N → N ≤ 64
-  most h = let r = g .small (N - 1) (omega arith) .room in omega arith
 
 module _ {t x : List ℤ} {w m q : ℕ} (g : Level t w x m q) where
   abbrev N : ℕ
@@ -55,10 +51,7 @@ module _ {t x : List ℤ} {w m q : ℕ} (g : Level t w x m q) where
   sizes = omega (arith, mul-le-mul-left {m = 1} {n = q} (m + m) (g .stride))
 
   pub half-size : m ≤ 32
-  half-size = omega (arith, sizes, g .size, most (g .table) (omega (arith, sizes, g .size)))
-
-  pub stride-size : q ≤ 64
-  stride-size = omega (arith, mul-le-mul-right {m = 1} {n = m + m} q (omega (arith, g .size)), g .size, sizes, most (g .table) (omega (arith, sizes, g .size)))
+  half-size = omega (arith, sizes, g .size, g .inputs .most)
 
   pub column : (n : ℕ) → n < m → n < N
   column n h = omega (arith, sizes)
@@ -66,7 +59,7 @@ module _ {t x : List ℤ} {w m q : ℕ} (g : Level t w x m q) where
   pub odd-within : (j n : ℕ) → j ≤ m → n < m → Within (j * term) (odd (rows t w) q j n (line x))
   unfolding odd
   odd-within j n r hn =
-      within-sum j term _ (λ k h. term-within (g .table) (suc (k + k) * q) n (odd-multiple k m q (omega arith) (g .stride)) (column n hn))
+      within-sum j term _ (λ k h. term-within (g .table) (g .inputs) (suc (k + k) * q) n (odd-multiple k m q (omega arith) (g .stride)) (column n hn))
 
   -- both halves are within 32 terms
   pub odd-bound : (n : ℕ) → n < m → Within 8796093022208 (odd (rows t w) q m n (line x))
@@ -75,4 +68,4 @@ module _ {t x : List ℤ} {w m q : ℕ} (g : Level t w x m q) where
   pub even-bound : (n : ℕ) → n < m → Within 8796093022208 (dot (rows t w) (q + q) m n (line x))
   even-bound n h =
       within-mono (omega (arith, half-size))
-      (dot-within (g .table) (q + q) m n (omega (arith, g .stride)) (omega (arith, add-mul m m q, mul-add m q q)) (column n h))
+      (dot-within (g .table) (g .inputs) (q + q) m n (omega (arith, g .stride)) (omega (arith, add-mul m m q, mul-add m q q)) (column n h))

@@ -4,3 +4,7 @@
 pub mod Halving
 pub mod Bounds
 pub mod Step
+-- the lines of a buffer: gathered, stored
+pub mod Lines
+-- document 01's table as an instance
+pub mod Instance

@@ -4,27 +4,20 @@ use mathlib.Core.Logic.{_≢_}
 use mathlib.Core.List.{List}
 use Prim.Native.Nat.{ℕ, zero, suc, _+_, _*_, _-_, _<_, _≤_}
 use native.Mathlib.Omega.{arith}
-use native.Mathlib.Nat.{not-suc-le-zero, zero-mul, one-mul, add-zero}
+use native.Mathlib.Nat.{not-suc-le-zero, zero-mul, one-mul, add-zero, mul-add, add-mul, mul-le-mul-left}
 use native.Mathlib.Decide.{ℕ-discrete, decLt}
 use lib.ListN.{length, getD, set, length-set}
 use lib.Seq.{getD-set-same, getD-set-other}
 use lib.IntN.{ℤ, pos, _+ℤ_, _-ℤ_, _*ℤ_, +ℤ-idl}
 use Rattle.integers.specs.Sum.{sum}
-use Rattle.itx.specs.Line.{line, rows, dot, odd, Level, Sums}
+use Rattle.itx.specs.Line.{line, rows, dot, odd, Level, Sums, Part}
 use Rattle.itx.proofs.Halving.{split, mirrored}
-use Rattle.itx.proofs.Bounds.{half-size}
-
-pub record Part (e : List ℤ) (T : ℕ → ℕ → ℤ) (q m n : ℕ) (x : List ℤ) : Type 0 where
-  pub long : length e ≡ 64
-  pub low : (j : ℕ) → j < n → getD e j (pos 0) ≡ dot T q (m + m) j (line x)
-  pub high : (j : ℕ) → j < n → getD e (m + m - suc j) (pos 0) ≡ dot T q (m + m) (m + m - suc j) (line x)
-  pub rest : (j : ℕ) → n ≤ j → j < m → getD e j (pos 0) ≡ dot T (q + q) m j (line x)
 
 module _ {e x : List ℤ} {T : ℕ → ℕ → ℤ} {q m : ℕ} where
   pub none : Sums e T (q + q) m x → Part e T q m 0 x
   none h =
       record {
-        long = h .long;
+        long = h .long ∙ mul-add m q q ∙ sym (add-mul m m q);
         low = λ j p. absurd (not-suc-le-zero p);
         high = λ j p. absurd (not-suc-le-zero p);
         rest = λ j p r. h .at j r;
@@ -39,6 +32,10 @@ module _ {e x : List ℤ} {T : ℕ → ℕ → ℤ} {q m : ℕ} where
           let r : m + m - suc (m + m - suc n) ≡ n = omega arith in
           subst (λ (i : ℕ). getD e i (pos 0) ≡ dot T q (m + m) i (line x)) r (p .high (m + m - suc n) (omega arith))
 
+-- a place of the level is a place of the buffer
+pub place : {t x : List ℤ} {w m q : ℕ} → Level t w x m q → (n : ℕ) → n < m + m → n < (m + m) * q
+place {m = m} {q = q} g n h = omega (arith, mul-le-mul-left {m = 1} {n = q} (m + m) (g .stride))
+
 -- one place and its mirror more: the sum and the difference of the halves
 module _ {t x e : List ℤ} {w m q : ℕ} (g : Level t w x m q) (n : ℕ) (h : n < m) (p : Part e (rows t w) q m n x) (a b : ℤ) where
   abbrev after : List ℤ
@@ -47,10 +44,10 @@ module _ {t x e : List ℤ} {w m q : ℕ} (g : Level t w x m q) (n : ℕ) (h : n
   at-n : getD after n (pos 0) ≡ a
   at-n =
       getD-set-other (set e n a) (m + m - suc n) n b (pos 0) (λ r. omega arith)
-      ∙ getD-set-same e n a (pos 0) (omega (arith, half-size g, p .long))
+      ∙ getD-set-same e n a (pos 0) (omega (arith, place g n (omega arith), p .long))
 
   at-mirror : getD after (m + m - suc n) (pos 0) ≡ b
-  at-mirror = getD-set-same (set e n a) (m + m - suc n) b (pos 0) (omega (arith, half-size g, p .long, length-set e n a))
+  at-mirror = getD-set-same (set e n a) (m + m - suc n) b (pos 0) (omega (arith, place g (m + m - suc n) (omega arith), p .long, length-set e n a))
 
   other : (j : ℕ) → j ≢ n → j ≢ m + m - suc n → getD after j (pos 0) ≡ getD e j (pos 0)
   other j f k = getD-set-other (set e n a) (m + m - suc n) j b (pos 0) k ∙ getD-set-other e n j a (pos 0) f
@@ -84,13 +81,13 @@ two T q n x =
     ∙ ap (λ (i : ℕ). T i n *ℤ x i +ℤ T (1 * q) n *ℤ x (1 * q)) (zero-mul q)
     ∙ ap (λ (i : ℕ). T 0 n *ℤ x 0 +ℤ T i n *ℤ x i) (one-mul q)
 
-module _ (t x e : List ℤ) (w q : ℕ) (l : length e ≡ 64) (a b : ℤ) where
+module _ (t x e : List ℤ) (w q : ℕ) (s : 0 < q) (l : length e ≡ q + q) (a b : ℤ) where
   abbrev pair : List ℤ
   pair = set (set e 0 a) 1 b
 
   -- at the code's places of the table
   pub started : a ≡ getD t 0 (pos 0) *ℤ line x 0 +ℤ getD t (q * w) (pos 0) *ℤ line x q → b ≡ getD t 1 (pos 0) *ℤ line x 0 +ℤ getD t (q * w + 1) (pos 0) *ℤ line x q → Sums pair (rows t w) q 2 x
-  started ea eb = record { long = length-set (set e 0 a) 1 b ∙ length-set e 0 a ∙ l; at = at }
+  started ea eb = record { long = length-set (set e 0 a) 1 b ∙ length-set e 0 a ∙ l ∙ omega arith; at = at }
     where
       at : (n : ℕ) → n < 2 → getD pair n (pos 0) ≡ dot (rows t w) q 2 n (line x)
       at zero h =

@@ -2,7 +2,7 @@
 -- a line x, x k is input k. Document 01, "The two stages"; document 02, request Ten. Assumes nothing.
 use mathlib.Core.Path.{_≡_}
 use mathlib.Core.List.{List}
-use Prim.Native.Nat.{ℕ, suc, _+_, _*_, _<_, _≤_}
+use Prim.Native.Nat.{ℕ, suc, _+_, _*_, _-_, _<_, _≤_}
 use lib.ListN.{length, getD}
 use lib.IntN.{ℤ, pos, _*ℤ_, natAbs}
 use Rattle.integers.specs.Sum.{sumZ}
@@ -26,7 +26,7 @@ line x k = getD x k (pos 0)
 
 -- x has an input i, of 32 bits
 pub record Small (x : List ℤ) (i : ℕ) : Type 0 where
-  pub room : i < 64
+  pub room : i < length x
   pub small : natAbs (line x i) ≤ 2147483648
 
 -- r is the product of a table's number and an input
@@ -34,20 +34,32 @@ pub record Term (t : List ℤ) (at : ℕ) (x : List ℤ) (i : ℕ) (r : ℤ) : T
   pub is : r ≡ getD t at (pos 0) *ℤ line x i
   pub small : natAbs r ≤ 274877906944
 
--- t holds an N by N table of signed bytes that is mirrored, and x a line of N inputs
-pub record Table (t : List ℤ) (w : ℕ) (x : List ℤ) (N : ℕ) : Type 0 where
+-- x is a line of N inputs, at most 64
+pub record Inputs (x : List ℤ) (N : ℕ) : Type 0 where
+  pub most : N ≤ 64
+  pub input : (i : ℕ) → i < N → Small x i
+
+-- t holds an N by N table of signed bytes, w places from row to row, that is mirrored
+pub record Table (t : List ℤ) (w N : ℕ) : Type 0 where
   pub mirrored : Mirrored N (rows t w)
   pub room : (k n : ℕ) → k < N → n < N → k * w + n < length t
   pub bytes : (k n : ℕ) → k < N → n < N → natAbs (rows t w k n) ≤ 128
-  pub small : (i : ℕ) → i < N → Small x i
 
--- the size 2m, of all 2mq rows every q-th, is a level of the halving
+-- the size 2m is a level of the halving of table and line: of all 2mq rows and inputs every q-th
 pub record Level (t : List ℤ) (w : ℕ) (x : List ℤ) (m q : ℕ) : Type 0 where
-  pub table : Table t w x ((m + m) * q)
+  pub table : Table t w ((m + m) * q)
+  pub inputs : Inputs x ((m + m) * q)
   pub size : 2 ≤ m
   pub stride : 0 < q
 
--- e holds the product of size m of the line x, with every q-th row and input
+-- e, which is as long as the line, holds the product of size m of the line x, with every q-th row and input
 pub record Sums (e : List ℤ) (T : ℕ → ℕ → ℤ) (q m : ℕ) (x : List ℤ) : Type 0 where
-  pub long : length e ≡ 64
+  pub long : length e ≡ m * q
   pub at : (n : ℕ) → n < m → getD e n (pos 0) ≡ dot T q m n (line x)
+
+-- e on its way from size m to size 2m: n places and their mirrors are done, the others still hold size m
+pub record Part (e : List ℤ) (T : ℕ → ℕ → ℤ) (q m n : ℕ) (x : List ℤ) : Type 0 where
+  pub long : length e ≡ (m + m) * q
+  pub low : (j : ℕ) → j < n → getD e j (pos 0) ≡ dot T q (m + m) j (line x)
+  pub high : (j : ℕ) → j < n → getD e (m + m - suc j) (pos 0) ≡ dot T q (m + m) (m + m - suc j) (line x)
+  pub rest : (j : ℕ) → n ≤ j → j < m → getD e j (pos 0) ≡ dot T (q + q) m j (line x)

@@ -51,7 +51,7 @@ module _ (c : In) where
   place = g .table .room d (s .args .n) row (column g (s .args .n) (s .pre .1))
 
   small-row : d < 64
-  small-row = g .table .small d row .room
+  small-row = omega (arith, row, g .inputs .most)
 
 abbrev known : tie.After-term Inv-loop μ-loop → ℕ → Known
 known c =
@@ -82,7 +82,7 @@ add-term : tie.Need-add-term Inv-loop μ-loop
 add-term c = omega (arith, place c)
 
 term-requires : tie.Need-term-requires Inv-loop μ-loop
-term-requires c κs = (place c, g c .table .small (d c) (row c))
+term-requires c κs = (place c, g c .inputs .input (d c) (row c))
 
 add-sum : tie.Need-add-sum Inv-loop μ-loop
 add-sum c = fit (known c) w64 (add (var 0) (var 1)) tt

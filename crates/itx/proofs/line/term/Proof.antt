@@ -30,8 +30,8 @@ cast-result c = fit (known c) w64 (var 0) tt
 mul-result : tie.Need-mul-result
 mul-result c = search needs
 
-element-copy-out-result : tie.Need-element-copy-out-result
-element-copy-out-result c = search needs
+shared-slice-copy-out-result-2 : tie.Need-shared-slice-copy-out-result-2
+shared-slice-copy-out-result-2 c = search needs
 
 mul-result-2 : tie.Need-mul-result-2
 mul-result-2 c = fit (known (c .before)) w64 (mul (loc w64 (var 0)) (var 1)) tt
@@ -44,4 +44,4 @@ returns c =
 pub term-spec : {M : Type 1} → statement M
 term-spec =
     tie.close
-    (tie.spec shared-slice-copy-out-result cast-result mul-result element-copy-out-result mul-result-2 returns)
+    (tie.spec shared-slice-copy-out-result cast-result mul-result shared-slice-copy-out-result-2 mul-result-2 returns)
