@@ -10,15 +10,17 @@ use lib.ListN.{length}
 use lib.IntN.{ℤ, pos, negℤ, _*ℤ_, natAbs}
 use Rattle.integers.specs.Sum.{ofZ+}
 use Rattle.integers.proofs.Every.{below, below-at}
-use Rattle.integers.proofs.Sum.{sum-ext}
+use Rattle.integers.proofs.Bound.{Within, within-mul, within-mono}
+use Rattle.integers.proofs.Sum.{sum-ext, within-sum}
 use Rattle.integers.proofs.Written.{tab-length}
 use Rattle.evc.specs.Table.{tm64, tm}
 use Rattle.table.specs.Flat.{flat}
 use Rattle.table.specs.Mirror.{Mirrored}
 use Rattle.table.proofs.Rule.{entry, tm64-within}
 use Rattle.table.proofs.Mirror.{tm-mirrored}
-use Rattle.itx.specs.Line.{rows, line, dot, Table, Sums}
-use Rattle.itx.proofs.Bounds.{multiple, odd-multiple}
+use Rattle.itx.specs.Line.{rows, line, dot, Inputs, Table, Sums}
+use Rattle.itx.specs.Lines.{Bounded}
+use Rattle.itx.proofs.Bounds.{term, multiple, odd-multiple}
 
 -- T and U are the same N by N table
 abbrev pub Same : ℕ → (ℕ → ℕ → ℤ) → (ℕ → ℕ → ℤ) → Type 0
@@ -101,3 +103,13 @@ module _ (l : ℕ) (h : l ≤ 6) (t : List ℤ) (is : t ≡ flat) where
 
   pub own-sums : {e x : List ℤ} → Sums e (rows t (64 * 2 ^ (6 - l))) 1 (2 ^ l) x → Sums e (tm (2 ^ l)) 1 (2 ^ l) x
   own-sums s = sums-ext (rw is (flat-same (2 ^ l) (2 ^ (6 - l)) (sizes .0) (sizes .1) (pow-pos (6 - l)) (pow-pos l))) s
+
+-- a sum of stage two has room for its rounding number
+pub own-bounded : (N : ℕ) {e x : List ℤ} → Inputs x N → Sums e (tm N) 1 N x → Bounded e N
+unfolding dot
+own-bounded N {e} {x} v s = record { small = λ n r. rw (s .at n r) (within-mono {m = N * term} {n = 17592186044416} (omega (arith, v .most)) (within-sum N term _ (λ k h. one k n h)) .bound) }
+  where
+    one : (k n : ℕ) → k < N → Within term (tm N (k * 1) n *ℤ line x (k * 1))
+    one k n h =
+        within-mul {m = 128} {n = 2147483648} {x = tm N (k * 1) n} {y = line x (k * 1)} (record { bound = le-trans (tm64-within (k * 1 * (64 / N)) n) (omega arith) })
+        (record { bound = v .input (k * 1) (omega (arith, mul-one k)) .small })

@@ -2,4 +2,9 @@
 mod gather;
 mod line;
 mod own;
+mod stage_one;
+mod stage_two;
 mod store;
+
+pub use stage_one::itxb0;
+pub use stage_two::itxb1;
