@@ -3,7 +3,6 @@ mod block;
 mod components;
 mod job;
 mod pairs;
-mod stub;
 mod sub_block;
 mod tests;
 
