@@ -8,3 +8,6 @@ pub mod Step
 pub mod Lines
 -- document 01's table as an instance
 pub mod Instance
+-- what callers cite
+pub mod Calls
+pub mod Clip

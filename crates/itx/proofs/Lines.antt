@@ -5,6 +5,7 @@ use Prim.Native.Nat.{ℕ, zero, suc, _+_, _*_, _-_, _/_, _%_, _^_, _<_, _≤_}
 use native.Mathlib.Omega.{arith}
 use native.Mathlib.Nat.{mul-comm, suc-mul, mul-le-mul-right, add-zero, zero-mul, not-suc-le-zero}
 use native.Mathlib.Decide.{ℕ-discrete}
+use lib.Pow.{pow-add}
 use lib.Dec.{T, leb, leb→le}
 use lib.ListN.{length, getD, set, length-set, replicate}
 use lib.Seq.{getD-set-same, getD-set-other}
@@ -107,6 +108,13 @@ lines-length G d₀ n l j h r e = ap length e ∙ written-length (j * n) G d₀ 
 
 pub lines-all : (G : ℕ → ℤ) (d₀ : List ℤ) {d : List ℤ} (n l j : ℕ) → j ≡ l → d ≡ written (j * n) G d₀ → d ≡ written (n * l) G d₀
 lines-all G d₀ {d} n l j h e = written-count (j * n) (n * l) G d₀ d (ap (λ (i : ℕ). i * n) h ∙ mul-comm l n) e
+
+-- a whole stage: 2^b lines of 2^a places, l of them as the code has it
+pub rooms : {src dst : List ℤ} (a b l : ℕ) → l ≡ 2 ^ b → 2 ^ (a + b) ≤ length src → 2 ^ (a + b) ≤ length dst → Rooms src dst (2 ^ a) l
+rooms a b l e r s = record { src-room = rw (e, ← pow-add 2 a b) r; dst-room = rw (e, ← pow-add 2 a b) s }
+
+pub stage-end : (F : ℕ → ℕ → ℤ) (d₀ : List ℤ) {d : List ℤ} (a b l : ℕ) → l ≡ 2 ^ b → d ≡ written (2 ^ a * l) (F l) d₀ → d ≡ written (2 ^ (a + b)) (F (2 ^ b)) d₀
+stage-end F d₀ a b l e p = rw (pow-add 2 a b, ← e) p
 
 -- ---- the rounding number of stage two
 round-test : T (below (λ s. leb (natAbs (rounding s)) 2147483648) 32)
