@@ -1,0 +1,3 @@
+-- Laws that several proofs of this crate need.
+pub mod Laws
+pub mod Running

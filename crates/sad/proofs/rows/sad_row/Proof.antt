@@ -1,0 +1,93 @@
+-- `sad_row` meets its contract. Assumes nothing.
+use Prim.Native.Nat.{ℕ, _+_, _-_, _*_, _≤_, _<_}
+use native.Mathlib.Omega.{arith}
+use mathlib.Core.Path.{_≡_, refl, sym, ap, _∙_}
+use mathlib.Core.List.{List}
+use lib.ListN.{getD}
+use mir.Val.{Fits}
+use Rattle.sad.specs.Totals.{Told, apart, squared, both}
+use Rattle.sad.proofs.Laws.{abs-dif-le}
+use Rattle.sad.proofs.Running.{Running, running-start, running-step, running-end, running-next}
+use Rattle.sad.proofs.rows.sad_row.Statement.{statement}
+use Rattle.sad.proofs.rows.sad_row.Tie as tie
+use Rattle.sad.proofs.rows.sad_row.Reads as reads
+use Rattle.sad.proofs.rows.sad_row.Lts as lts
+use Rattle.sad.proofs.rows.distance.Reads as distance-reads
+
+abbrev Inv-loop : tie.InvT-loop
+Inv-loop a b w sum₀ any₀ i₀ sum any i = Running w (apart a b) (both a b) sum any i
+
+abbrev μ-loop : tie.MeasureT-loop
+μ-loop a b w sum₀ any₀ i₀ sum any i = w - i
+
+-- the two rows
+abbrev rowA : tie.After-distance Inv-loop μ-loop → List ℕ
+rowA c = c .before .before .before .before .before .before .before .args .a .now
+
+abbrev rowB : tie.After-distance Inv-loop μ-loop → List ℕ
+rowB c = c .before .before .before .before .before .before .before .args .b .now
+
+loop-holds : tie.Need-loop-holds Inv-loop μ-loop
+loop-holds c = running-start
+
+mul-p : tie.Need-mul-p Inv-loop μ-loop
+mul-p c = omega arith
+
+shared-slice-read-p : tie.Need-shared-slice-read-p Inv-loop μ-loop
+shared-slice-read-p c = omega arith
+
+mul-q : tie.Need-mul-q Inv-loop μ-loop
+mul-q c = omega arith
+
+shared-slice-read-q : tie.Need-shared-slice-read-q Inv-loop μ-loop
+shared-slice-read-q c = omega arith
+
+distance-requires : tie.Need-distance-requires Inv-loop μ-loop
+distance-requires c κs = tt
+
+cast-sum : tie.Need-cast-sum Inv-loop μ-loop
+cast-sum c = omega (arith, c .distance .ok)
+
+-- no summand is above 65535
+most : (c : tie.After-distance Inv-loop μ-loop) (i : ℕ) → apart (rowA c) (rowB c) i ≤ 65535
+unfolding apart
+most c i =
+    abs-dif-le 65535 (getD (rowA c) i 0) (getD (rowB c) i 0) (omega (arith, c .before .before .shared-slice-known3 .given i))
+    (omega (arith, c .before .shared-slice-known4 .given i))
+
+add-sum : tie.Need-add-sum Inv-loop μ-loop
+unfolding apart
+add-sum c =
+    omega (arith, running-next 65535 (c .before .before .before .before .loop .inv) (omega arith) (c .distance .ensures) (λ i h. most c i))
+
+add-i : tie.Need-add-i Inv-loop μ-loop
+add-i c = omega arith
+
+loop-less : tie.Need-loop-less Inv-loop μ-loop
+loop-less c = omega arith
+
+loop-again : tie.Need-loop-again Inv-loop μ-loop
+unfolding apart both
+loop-again c = running-step (c .before .before .before .before .loop .inv) (omega arith) (c .distance .ensures) refl
+
+returns : tie.Need-returns Inv-loop μ-loop
+returns c = running-end (c .before .loop .inv) (omega arith)
+
+pub sad-row-spec : {M : Type 1} → statement M
+sad-row-spec =
+    tie.close
+    (tie.spec
+    Inv-loop
+    μ-loop
+    loop-holds
+    mul-p
+    shared-slice-read-p
+    mul-q
+    shared-slice-read-q
+    distance-requires
+    cast-sum
+    add-sum
+    add-i
+    loop-less
+    loop-again
+    returns)

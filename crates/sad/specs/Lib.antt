@@ -1,0 +1,3 @@
+-- What the contracts of the helpers below src/ cite, beyond document 01's own definitions (evc/specs).
+pub mod Or
+pub mod Totals
