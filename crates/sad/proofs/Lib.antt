@@ -1,3 +1,4 @@
 -- Laws that several proofs of this crate need.
 pub mod Laws
 pub mod Running
+pub mod Cells

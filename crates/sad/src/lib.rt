@@ -1,2 +1,3 @@
 // The distortion calls, after the Rust's enc/sad.rs: each public function tests, then compares two blocks row by row.
+mod blocks;
 mod rows;

@@ -3,9 +3,20 @@
 // Differs from the Rust in: a row is a part of its buffer; samples are tested by the OR of all that are read, compared once by the caller, so
 // that these loops have no way out and become vector code.
 ghost use mathlib.Core.Path.{_≡_};
-ghost use Prim.Native.Nat.{_≤_, _*_, _/_, _^_};
-ghost use lib.IntN.{pos, natAbs, _-ℤ_};
-ghost use Rattle.sad.specs.Totals.{Told, TwoRows, apart, squared, both};
+ghost use Prim.Native.Nat.{_+_, _*_, _≤_};
+ghost use lib.Bits.{bitOr};
+ghost use lib.ListN.{length, getD};
+ghost use Rattle.sad.specs.Totals.{rowOf, Told, TwoRows, apart, squared};
+
+// Row j of a block whose rows stand a stride apart in l, from `at` on.
+pub(crate) fn row(l: &[u16], at: usize, stride: usize, j: usize, w: usize) -> &[u16]
+    requires { ⌜ at + j * stride + w ≤ length (now l) ⌝ }
+    ensures { λ r. ⌜ now r ≡ rowOf (now (l .entry)) at stride j w ⌝ }
+{
+    let from = at + j * stride;
+    let to = from + w;
+    &l[from..to]
+}
 
 // A sum, and the OR of what SAMPLE looks at.
 pub(crate) struct Totals {
@@ -15,7 +26,7 @@ pub(crate) struct Totals {
 
 // How far two samples are apart.
 fn distance(p: u16, q: u16) -> u16
-    ensures { λ r. ⌜ r ≡ natAbs (pos p -ℤ pos q) ⌝ }
+    ensures { λ r. ⌜ r ≡ apart p q ⌝ }
 {
     if p < q { q - p } else { p - q }
 }
@@ -23,7 +34,7 @@ fn distance(p: u16, q: u16) -> u16
 // The absolute differences of two rows, added.
 pub(crate) fn sad_row(a: &[u16], b: &[u16], w: usize) -> Totals
     requires { ⌜ TwoRows w (now a) (now b) ⌝ }
-    ensures { λ r. ⌜ Told w (apart (now (a .entry)) (now (b .entry))) (both (now (a .entry)) (now (b .entry))) (r .sum) (r .any) ⌝ }
+    ensures { λ r. ⌜ Told w (λ i. apart (getD (now (a .entry)) i 0) (getD (now (b .entry)) i 0)) (λ i. bitOr (getD (now (a .entry)) i 0) (getD (now (b .entry)) i 0)) (r .sum) (r .any) ⌝ }
 {
     let mut sum: u64 = 0;
     let mut any: u16 = 0;
@@ -40,7 +51,7 @@ pub(crate) fn sad_row(a: &[u16], b: &[u16], w: usize) -> Totals
 pub(crate) fn ssd_row(a: &[u16], b: &[u16], w: usize, shift: u8) -> Totals
     requires { ⌜ TwoRows w (now a) (now b) ⌝ }
     requires { ⌜ shift ≤ 12 ⌝ }
-    ensures { λ r. ⌜ Told w (squared shift (now (a .entry)) (now (b .entry))) (both (now (a .entry)) (now (b .entry))) (r .sum) (r .any) ⌝ }
+    ensures { λ r. ⌜ Told w (λ i. squared shift (getD (now (a .entry)) i 0) (getD (now (b .entry)) i 0)) (λ i. bitOr (getD (now (a .entry)) i 0) (getD (now (b .entry)) i 0)) (r .sum) (r .any) ⌝ }
 {
     let mut sum: u64 = 0;
     let mut any: u16 = 0;

@@ -1,6 +1,7 @@
 -- `distance` meets its contract. Assumes nothing.
 use mathlib.Core.Path.{sym, _∙_}
 use native.Mathlib.Omega.{arith}
+use Rattle.sad.specs.Totals.{apart}
 use Rattle.sad.proofs.Laws.{abs-dif}
 use Rattle.sad.proofs.rows.distance.Statement.{statement}
 use Rattle.sad.proofs.rows.distance.Tie as tie
@@ -9,9 +10,11 @@ sub-result : tie.Need-sub-result
 sub-result c = omega arith
 
 returns : tie.Need-returns
+unfolding apart
 returns c = rw (abs-dif (c .before .args .p) (c .before .args .q)) (omega arith)
 
 returns-2 : tie.Need-returns-2
+unfolding apart
 returns-2 c = rw (abs-dif (c .before .args .p) (c .before .args .q)) (omega arith)
 
 pub distance-spec : {M : Type 1} → statement M

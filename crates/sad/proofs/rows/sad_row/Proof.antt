@@ -3,9 +3,10 @@ use Prim.Native.Nat.{ℕ, _+_, _-_, _*_, _≤_, _<_}
 use native.Mathlib.Omega.{arith}
 use mathlib.Core.Path.{_≡_, refl, sym, ap, _∙_}
 use mathlib.Core.List.{List}
+use lib.Bits.{bitOr}
 use lib.ListN.{getD}
 use mir.Val.{Fits}
-use Rattle.sad.specs.Totals.{Told, apart, squared, both}
+use Rattle.sad.specs.Totals.{apart, squared}
 use Rattle.sad.proofs.Laws.{abs-dif-le}
 use Rattle.sad.proofs.Running.{Running, running-start, running-step, running-end, running-next}
 use Rattle.sad.proofs.rows.sad_row.Statement.{statement}
@@ -15,7 +16,7 @@ use Rattle.sad.proofs.rows.sad_row.Lts as lts
 use Rattle.sad.proofs.rows.distance.Reads as distance-reads
 
 abbrev Inv-loop : tie.InvT-loop
-Inv-loop a b w sum₀ any₀ i₀ sum any i = Running w (apart a b) (both a b) sum any i
+Inv-loop a b w sum₀ any₀ i₀ sum any i = Running w (λ k. apart (getD a k 0) (getD b k 0)) (λ k. bitOr (getD a k 0) (getD b k 0)) sum any i
 
 abbrev μ-loop : tie.MeasureT-loop
 μ-loop a b w sum₀ any₀ i₀ sum any i = w - i
@@ -49,14 +50,13 @@ cast-sum : tie.Need-cast-sum Inv-loop μ-loop
 cast-sum c = omega (arith, c .distance .ok)
 
 -- no summand is above 65535
-most : (c : tie.After-distance Inv-loop μ-loop) (i : ℕ) → apart (rowA c) (rowB c) i ≤ 65535
+most : (c : tie.After-distance Inv-loop μ-loop) (i : ℕ) → apart (getD (rowA c) i 0) (getD (rowB c) i 0) ≤ 65535
 unfolding apart
 most c i =
     abs-dif-le 65535 (getD (rowA c) i 0) (getD (rowB c) i 0) (omega (arith, c .before .before .shared-slice-known3 .given i))
     (omega (arith, c .before .shared-slice-known4 .given i))
 
 add-sum : tie.Need-add-sum Inv-loop μ-loop
-unfolding apart
 add-sum c =
     omega (arith, running-next 65535 (c .before .before .before .before .loop .inv) (omega arith) (c .distance .ensures) (λ i h. most c i))
 
@@ -67,7 +67,6 @@ loop-less : tie.Need-loop-less Inv-loop μ-loop
 loop-less c = omega arith
 
 loop-again : tie.Need-loop-again Inv-loop μ-loop
-unfolding apart both
 loop-again c = running-step (c .before .before .before .before .loop .inv) (omega arith) (c .distance .ensures) refl
 
 returns : tie.Need-returns Inv-loop μ-loop

@@ -4,9 +4,10 @@ use native.Mathlib.Omega.{arith}
 use mathlib.Core.Path.{_≡_, refl, sym, ap, _∙_}
 use mathlib.Core.List.{List}
 use native.Mathlib.Nat.{le-trans, mul-le-mul, div-le-self}
+use lib.Bits.{bitOr}
 use lib.ListN.{getD}
 use mir.Val.{Fits}
-use Rattle.sad.specs.Totals.{Told, apart, squared, both}
+use Rattle.sad.specs.Totals.{apart, squared}
 use Rattle.sad.proofs.Laws.{abs-dif-le}
 use Rattle.sad.proofs.Running.{Running, running-start, running-step, running-end, running-next}
 use Rattle.sad.proofs.rows.ssd_row.Statement.{statement}
@@ -16,17 +17,20 @@ use Rattle.sad.proofs.rows.ssd_row.Lts as lts
 use Rattle.sad.proofs.rows.distance.Reads as distance-reads
 
 abbrev Inv-loop : tie.InvT-loop
-Inv-loop a b w shift sum₀ any₀ i₀ sum any i = Running w (squared shift a b) (both a b) sum any i
+Inv-loop a b w shift sum₀ any₀ i₀ sum any i = Running w (λ k. squared shift (getD a k 0) (getD b k 0)) (λ k. bitOr (getD a k 0) (getD b k 0)) sum any i
 
 abbrev μ-loop : tie.MeasureT-loop
 μ-loop a b w shift sum₀ any₀ i₀ sum any i = w - i
 
--- the two rows, and the shift
+-- the two rows, the place, and the shift
 abbrev rowA : tie.After-distance Inv-loop μ-loop → List ℕ
 rowA c = c .before .before .before .before .before .before .before .args .a .now
 
 abbrev rowB : tie.After-distance Inv-loop μ-loop → List ℕ
 rowB c = c .before .before .before .before .before .before .before .args .b .now
+
+abbrev at : tie.After-distance Inv-loop μ-loop → ℕ
+at c = c .before .before .before .before .loop .i
 
 abbrev shiftOf : tie.After-distance Inv-loop μ-loop → ℕ
 shiftOf c = c .before .before .before .before .before .before .before .args .shift
@@ -66,18 +70,18 @@ cast-sum : tie.Need-cast-sum Inv-loop μ-loop
 cast-sum c = omega (arith, square (c .distance .result) (omega (arith, c .distance .ok)), div-le-self (c .distance .result * c .distance .result) (2 ^ shiftOf c))
 
 -- no summand has more than 32 bits
-most : (c : tie.After-distance Inv-loop μ-loop) (i : ℕ) → squared (shiftOf c) (rowA c) (rowB c) i ≤ 4294836225
+most : (c : tie.After-distance Inv-loop μ-loop) (i : ℕ) → squared (shiftOf c) (getD (rowA c) i 0) (getD (rowB c) i 0) ≤ 4294836225
 unfolding apart squared
 most c i =
-    let d = apart (rowA c) (rowB c) i in
+    let d = apart (getD (rowA c) i 0) (getD (rowB c) i 0) in
     le-trans (div-le-self (d * d) (2 ^ shiftOf c))
     (square d
     (abs-dif-le 65535 (getD (rowA c) i 0) (getD (rowB c) i 0) (omega (arith, c .before .before .shared-slice-known3 .given i))
     (omega (arith, c .before .shared-slice-known4 .given i))))
 
 -- the summand of this turn
-summand : (c : tie.After-distance Inv-loop μ-loop) → c .distance .result * c .distance .result / 2 ^ shiftOf c ≡ squared (shiftOf c) (rowA c) (rowB c) (c .before .before .before .before .loop .i)
-unfolding apart squared
+summand : (c : tie.After-distance Inv-loop μ-loop) → c .distance .result * c .distance .result / 2 ^ shiftOf c ≡ squared (shiftOf c) (getD (rowA c) (at c) 0) (getD (rowB c) (at c) 0)
+unfolding squared
 summand c = ap (λ (d : ℕ). d * d / 2 ^ shiftOf c) (c .distance .ensures)
 
 add-sum : tie.Need-add-sum Inv-loop μ-loop
@@ -90,7 +94,6 @@ loop-less : tie.Need-loop-less Inv-loop μ-loop
 loop-less c = omega arith
 
 loop-again : tie.Need-loop-again Inv-loop μ-loop
-unfolding both
 loop-again c = running-step (c .before .before .before .before .loop .inv) (omega arith) (summand c) refl
 
 returns : tie.Need-returns Inv-loop μ-loop
