@@ -1,8 +1,8 @@
 -- Rows of a block: what a row's values are, what two rows told says of two blocks, and how much the rows may add up to. Assumes nothing.
-use mathlib.Core.Path.{_≡_, refl, sym, ap, ap₂, _∙_}
+use mathlib.Core.Path.{_≡_, refl, sym, ap, ap₂, _∙_, subst}
 use mathlib.Core.List.{List}
 use Prim.Native.Nat.{ℕ, _+_, _-_, _*_, _≤_, _<_}
-use native.Mathlib.Nat.{le-trans, mul-le-mul-right}
+use native.Mathlib.Nat.{le-trans, le-of-eq, mul-le-mul-right}
 use native.Mathlib.Omega.{arith}
 use lib.ListN.{length, getD, take, drop, length-take, length-drop}
 use lib.Seq.{getD-take, getD-drop}
@@ -10,7 +10,7 @@ use Rattle.integers.specs.Sum.{ofN+, sumN}
 use Rattle.integers.proofs.Sum.{sum-ext, sum-le}
 use Rattle.order.specs.Positions.{reach}
 use Rattle.sad.specs.Or.{ofOr}
-use Rattle.sad.specs.Totals.{Told, TwoRows, rowOf, cell}
+use Rattle.sad.specs.Totals.{Told, Compared, TwoRows, TwoBlocks, rowOf, cell}
 
 -- row j ends no later than the last row
 pub row-in : (s t w h j : ℕ) → j < h → s + j * t + w ≤ reach s w t h
@@ -24,6 +24,23 @@ module _ {A : Type 0} (l : List A) (s t j w : ℕ) where
   pub row-at : (d : A) (i : ℕ) → i < w → getD (rowOf l s t j w) i d ≡ cell d l s t j i
   unfolding rowOf cell
   row-at d i h = rw (getD-take, getD-drop)
+
+-- of two blocks: where each row ends, and that two rows are as long as the blocks are wide
+module _ {w h m s t n s′ t′ : ℕ} (k : TwoBlocks w h m s t n s′ t′) {j : ℕ} (p : j < h) where
+  pub in-one : s + j * t + w ≤ m
+  in-one = le-trans (row-in s t w h j p) (k .one)
+
+  pub in-two : s′ + j * t′ + w ≤ n
+  in-two = le-trans (row-in s′ t′ w h j p) (k .two)
+
+pub two-rows :
+    {A B : Type 0} (w h : ℕ) (a : List A) (s t : ℕ) (b : List B) (s′ t′ : ℕ) → TwoBlocks w h (length a) s t (length b) s′ t′ →
+    (j : ℕ) → j < h → (p : List A) (q : List B) → p ≡ rowOf a s t j w → q ≡ rowOf b s′ t′ j w → TwoRows w p q
+two-rows w h a s t b s′ t′ k j n p q e f = record {
+  one = ap length e ∙ row-length a s t j w (in-one k n);
+  two = ap length f ∙ row-length b s′ t′ j w (in-two k n);
+  small = k .narrow;
+}
 
 told-ext : {w s m : ℕ} {f g : ℕ → ℕ} (f′ g′ : ℕ → ℕ) → Told w f g s m → ((i : ℕ) → i < w → f i ≡ f′ i) → ((i : ℕ) → i < w → g i ≡ g′ i) → Told w f′ g′ s m
 told-ext {w} {s} {m} {f} {g} f′ g′ t p q = record { total = t .total ∙ sum-ext ofN+ w f f′ p; marks = t .marks ∙ sum-ext ofOr w g g′ q }
@@ -43,3 +60,10 @@ module _ {A B : Type 0} (f g : A → B → ℕ) (d : A) (e : B) (a : List A) (s 
 -- a row of at most 64
 pub row-most : (w b : ℕ) (f : ℕ → ℕ) → w ≤ 64 → ((i : ℕ) → f i ≤ b) → sumN w f ≤ 64 * b
 row-most w b f h k = le-trans (sum-le w b f (λ i p. k i)) (mul-le-mul-right b h)
+
+pub told-most : {w s m : ℕ} {f g : ℕ → ℕ} (b : ℕ) → Told w f g s m → w ≤ 64 → ((i : ℕ) → f i ≤ b) → s ≤ 64 * b
+told-most {w} {s} {m} {f} b t h k = le-trans (le-of-eq (t .total)) (row-most w b f h k)
+
+-- a width that a literal names
+pub compared-at : (w k h : ℕ) (f g : ℕ → ℕ → ℕ) {s m : ℕ} → w ≡ k → Compared k h f g s m → Compared w h f g s m
+compared-at w k h f g {s} {m} e t = subst (λ (n : ℕ). Compared n h f g s m) (sym e) t

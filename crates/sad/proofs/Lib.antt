@@ -1,4 +1,5 @@
 -- Laws that several proofs of this crate need.
 pub mod Laws
+pub mod Samples
 pub mod Running
 pub mod Cells

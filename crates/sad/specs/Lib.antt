@@ -1,3 +1,4 @@
 -- What the contracts of the helpers below src/ cite, beyond document 01's own definitions (evc/specs).
 pub mod Or
 pub mod Totals
+pub mod Areas

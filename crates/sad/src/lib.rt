@@ -1,3 +1,4 @@
 // The distortion calls, after the Rust's enc/sad.rs: each public function tests, then compares two blocks row by row.
 mod blocks;
 mod rows;
+mod tests;

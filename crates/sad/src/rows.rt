@@ -36,15 +36,16 @@ pub(crate) fn sad_row(a: &[u16], b: &[u16], w: usize) -> Totals
     requires { ⌜ TwoRows w (now a) (now b) ⌝ }
     ensures { λ r. ⌜ Told w (λ i. apart (getD (now (a .entry)) i 0) (getD (now (b .entry)) i 0)) (λ i. bitOr (getD (now (a .entry)) i 0) (getD (now (b .entry)) i 0)) (r .sum) (r .any) ⌝ }
 {
-    let mut sum: u64 = 0;
+    let mut sum: u32 = 0;
     let mut any: u16 = 0;
     for i in 0..w {
         let p = a[i];
         let q = b[i];
         any = any | (p | q);
-        sum = sum + (distance(p, q) as u64);
+        sum = sum + (distance(p, q) as u32);
     }
-    Totals { sum: sum, any: any }
+    let all = sum as u64;
+    Totals { sum: all, any: any }
 }
 
 // The squared differences of two rows, each divided by 2^shift, added.

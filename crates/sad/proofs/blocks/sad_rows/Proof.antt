@@ -7,10 +7,10 @@ use lib.Bits.{bitOr}
 use lib.ListN.{length, getD}
 use Rattle.integers.specs.Sum.{sumN}
 use Rattle.sad.specs.Or.{orN}
-use Rattle.sad.specs.Totals.{Told, TwoRows, apart, cell}
-use Rattle.sad.proofs.Laws.{abs-dif-le}
+use Rattle.sad.specs.Totals.{Told, apart, cell}
+use Rattle.sad.proofs.Samples.{apart-le}
 use Rattle.sad.proofs.Running.{Running, running-start, running-step, running-end, running-next}
-use Rattle.sad.proofs.Cells.{row-in, row-length, told-rows, row-most}
+use Rattle.sad.proofs.Cells.{in-one, in-two, two-rows, told-rows, row-most}
 use Rattle.sad.proofs.blocks.sad_rows.Statement.{statement}
 use Rattle.sad.proofs.blocks.sad_rows.Tie as tie
 use Rattle.sad.proofs.blocks.sad_rows.Reads as reads
@@ -30,31 +30,16 @@ loop-holds : tie.Need-loop-holds Inv-loop μ-loop
 loop-holds c = running-start
 
 row-requires : tie.Need-row-requires Inv-loop μ-loop
-row-requires c κs =
-    let a = c .before .before .before .before .args in
-    let p = c .before .before .before .before .pre in
-    omega (arith, row-in (a .a-at) (a .a-stride) (a .w) (a .h) (c .before .loop .j) (omega arith), p .one)
+row-requires c κs = in-one (c .before .before .before .before .pre) (omega arith)
 
 row-requires-2 : tie.Need-row-requires-2 Inv-loop μ-loop
-row-requires-2 c κs =
-    let a = c .before .before .before .before .before .args in
-    let p = c .before .before .before .before .before .pre in
-    omega (arith, row-in (a .b-at) (a .b-stride) (a .w) (a .h) (c .before .before .loop .j) (omega arith), p .two)
+row-requires-2 c κs = in-two (c .before .before .before .before .before .pre) (omega arith)
 
 sad-row-requires : tie.Need-sad-row-requires Inv-loop μ-loop
 sad-row-requires c κs =
     let a = c .before .before .before .before .before .before .args in
-    let p = c .before .before .before .before .before .before .pre in
-    let j = c .before .before .before .loop .j in
-    record {
-      one =
-          ap length (c .before .row .ensures)
-          ∙ row-length (a .a .now) (a .a-at) (a .a-stride) j (a .w) (omega (arith, row-in (a .a-at) (a .a-stride) (a .w) (a .h) j (omega arith), p .one));
-      two =
-          ap length (c .row2 .ensures)
-          ∙ row-length (a .b .now) (a .b-at) (a .b-stride) j (a .w) (omega (arith, row-in (a .b-at) (a .b-stride) (a .w) (a .h) j (omega arith), p .two));
-      small = p .narrow;
-    }
+    two-rows (a .w) (a .h) (a .a .now) (a .a-at) (a .a-stride) (a .b .now) (a .b-at) (a .b-stride) (c .before .before .before .before .before .before .pre)
+    (c .before .before .before .loop .j) (omega arith) (c .before .row .result .now) (c .row2 .result .now) (c .before .row .ensures) (c .row2 .ensures)
 
 -- what the rows told, said of the blocks
 told :
@@ -74,13 +59,13 @@ most :
     (c : tie.After-sad-row Inv-loop μ-loop) (j : ℕ) →
     let a = c .before .before .before .before .before .before .before .args in
     sumN (a .w) (λ i. apart (cell 0 (a .a .now) (a .a-at) (a .a-stride) j i) (cell 0 (a .b .now) (a .b-at) (a .b-stride) j i)) ≤ 4194240
-unfolding apart cell
+unfolding cell
 most c j =
     let s = c .before .before .before .before .before .before .before in
     let a = s .args in
     row-most (a .w) 65535 (λ i. apart (cell 0 (a .a .now) (a .a-at) (a .a-stride) j i) (cell 0 (a .b .now) (a .b-at) (a .b-stride) j i)) (s .pre .narrow)
     (λ i.
-      abs-dif-le 65535 (cell 0 (a .a .now) (a .a-at) (a .a-stride) j i) (cell 0 (a .b .now) (a .b-at) (a .b-stride) j i)
+      apart-le (cell 0 (a .a .now) (a .a-at) (a .a-stride) j i) (cell 0 (a .b .now) (a .b-at) (a .b-stride) j i)
       (omega (arith, c .before .before .before .before .before .before .shared-slice-known .given (a .a-at + j * a .a-stride + i)))
       (omega (arith, c .before .before .before .before .before .shared-slice-known2 .given (a .b-at + j * a .b-stride + i))))
 

@@ -7,8 +7,9 @@ use lib.Bits.{bitOr}
 use lib.ListN.{getD}
 use mir.Val.{Fits}
 use Rattle.sad.specs.Totals.{apart, squared}
-use Rattle.sad.proofs.Laws.{abs-dif-le}
+use Rattle.sad.proofs.Samples.{apart-le}
 use Rattle.sad.proofs.Running.{Running, running-start, running-step, running-end, running-next}
+use Rattle.sad.proofs.Cells.{told-most}
 use Rattle.sad.proofs.rows.sad_row.Statement.{statement}
 use Rattle.sad.proofs.rows.sad_row.Tie as tie
 use Rattle.sad.proofs.rows.sad_row.Reads as reads
@@ -20,13 +21,6 @@ Inv-loop a b w sum₀ any₀ i₀ sum any i = Running w (λ k. apart (getD a k 0
 
 abbrev μ-loop : tie.MeasureT-loop
 μ-loop a b w sum₀ any₀ i₀ sum any i = w - i
-
--- the two rows
-abbrev rowA : tie.After-distance Inv-loop μ-loop → List ℕ
-rowA c = c .before .before .before .before .before .before .before .args .a .now
-
-abbrev rowB : tie.After-distance Inv-loop μ-loop → List ℕ
-rowB c = c .before .before .before .before .before .before .before .args .b .now
 
 loop-holds : tie.Need-loop-holds Inv-loop μ-loop
 loop-holds c = running-start
@@ -49,16 +43,17 @@ distance-requires c κs = tt
 cast-sum : tie.Need-cast-sum Inv-loop μ-loop
 cast-sum c = omega (arith, c .distance .ok)
 
--- no summand is above 65535
-most : (c : tie.After-distance Inv-loop μ-loop) (i : ℕ) → apart (getD (rowA c) i 0) (getD (rowB c) i 0) ≤ 65535
-unfolding apart
+-- no summand is above 65535, before the loop and in it
+most :
+    (c : tie.After-shared-slice-known2 Inv-loop μ-loop) (i : ℕ) →
+    apart (getD (c .before .before .args .a .now) i 0) (getD (c .before .before .args .b .now) i 0) ≤ 65535
 most c i =
-    abs-dif-le 65535 (getD (rowA c) i 0) (getD (rowB c) i 0) (omega (arith, c .before .before .shared-slice-known3 .given i))
-    (omega (arith, c .before .shared-slice-known4 .given i))
+    apart-le (getD (c .before .before .args .a .now) i 0) (getD (c .before .before .args .b .now) i 0)
+    (omega (arith, c .before .shared-slice-known .given i)) (omega (arith, c .shared-slice-known2 .given i))
 
 add-sum : tie.Need-add-sum Inv-loop μ-loop
 add-sum c =
-    omega (arith, running-next 65535 (c .before .before .before .before .loop .inv) (omega arith) (c .distance .ensures) (λ i h. most c i))
+    omega (arith, running-next 65535 (c .before .before .before .before .loop .inv) (omega arith) (c .distance .ensures) (λ i h. most (c .before .before .before .before .before) i))
 
 add-i : tie.Need-add-i Inv-loop μ-loop
 add-i c = omega arith
@@ -68,6 +63,10 @@ loop-less c = omega arith
 
 loop-again : tie.Need-loop-again Inv-loop μ-loop
 loop-again c = running-step (c .before .before .before .before .loop .inv) (omega arith) (c .distance .ensures) refl
+
+cast-all : tie.Need-cast-all Inv-loop μ-loop
+cast-all c =
+    omega (arith, told-most 65535 (running-end (c .before .loop .inv) (omega arith)) (c .before .before .before .before .pre .small) (λ i. most (c .before .before) i))
 
 returns : tie.Need-returns Inv-loop μ-loop
 returns c = running-end (c .before .loop .inv) (omega arith)
@@ -89,4 +88,5 @@ sad-row-spec =
     add-i
     loop-less
     loop-again
+    cast-all
     returns)

@@ -3,12 +3,12 @@ use Prim.Native.Nat.{ℕ, _+_, _-_, _*_, _/_, _^_, _≤_, _<_}
 use native.Mathlib.Omega.{arith}
 use mathlib.Core.Path.{_≡_, refl, sym, ap, _∙_}
 use mathlib.Core.List.{List}
-use native.Mathlib.Nat.{le-trans, mul-le-mul, div-le-self}
+use native.Mathlib.Nat.{div-le-self}
 use lib.Bits.{bitOr}
 use lib.ListN.{getD}
 use mir.Val.{Fits}
 use Rattle.sad.specs.Totals.{apart, squared}
-use Rattle.sad.proofs.Laws.{abs-dif-le}
+use Rattle.sad.proofs.Samples.{square-le, squared-le}
 use Rattle.sad.proofs.Running.{Running, running-start, running-step, running-end, running-next}
 use Rattle.sad.proofs.rows.ssd_row.Statement.{statement}
 use Rattle.sad.proofs.rows.ssd_row.Tie as tie
@@ -56,28 +56,20 @@ distance-requires c κs = tt
 cast-d : tie.Need-cast-d Inv-loop μ-loop
 cast-d c = omega (arith, c .distance .ok)
 
--- a square of 16 bits has 32
-square : (n : ℕ) → n ≤ 65535 → n * n ≤ 4294836225
-square n h = mul-le-mul h h
-
 mul-sum : tie.Need-mul-sum Inv-loop μ-loop
-mul-sum c = omega (arith, square (c .distance .result) (omega (arith, c .distance .ok)))
+mul-sum c = omega (arith, square-le (c .distance .result) (omega (arith, c .distance .ok)))
 
 shr-sum : tie.Need-shr-sum Inv-loop μ-loop
 shr-sum c = omega arith
 
 cast-sum : tie.Need-cast-sum Inv-loop μ-loop
-cast-sum c = omega (arith, square (c .distance .result) (omega (arith, c .distance .ok)), div-le-self (c .distance .result * c .distance .result) (2 ^ shiftOf c))
+cast-sum c = omega (arith, square-le (c .distance .result) (omega (arith, c .distance .ok)), div-le-self (c .distance .result * c .distance .result) (2 ^ shiftOf c))
 
 -- no summand has more than 32 bits
 most : (c : tie.After-distance Inv-loop μ-loop) (i : ℕ) → squared (shiftOf c) (getD (rowA c) i 0) (getD (rowB c) i 0) ≤ 4294836225
-unfolding apart squared
 most c i =
-    let d = apart (getD (rowA c) i 0) (getD (rowB c) i 0) in
-    le-trans (div-le-self (d * d) (2 ^ shiftOf c))
-    (square d
-    (abs-dif-le 65535 (getD (rowA c) i 0) (getD (rowB c) i 0) (omega (arith, c .before .before .shared-slice-known3 .given i))
-    (omega (arith, c .before .shared-slice-known4 .given i))))
+    squared-le (shiftOf c) (getD (rowA c) i 0) (getD (rowB c) i 0) (omega (arith, c .before .before .shared-slice-known3 .given i))
+    (omega (arith, c .before .shared-slice-known4 .given i))
 
 -- the summand of this turn
 summand : (c : tie.After-distance Inv-loop μ-loop) → c .distance .result * c .distance .result / 2 ^ shiftOf c ≡ squared (shiftOf c) (getD (rowA c) (at c) 0) (getD (rowB c) (at c) 0)

@@ -1,0 +1,112 @@
+// What every call tests before it reads a sample: sides, depth, and that all that is to be read lies inside its buffer. Document 01, "Refusal
+// numbers" and "Numbers of the domain". All sums are exact: near the largest usize a test fails, and nothing wraps.
+// Differs from the Rust in: the Rust tests nothing.
+ghost use mathlib.Core.Path.{_≡_};
+ghost use mathlib.Core.Bool.{_||_};
+ghost use Prim.Native.Nat.{_+_, _≤_};
+ghost use lib.Dec.{ltb};
+ghost use Rattle.order.specs.Positions.{reach};
+ghost use Rattle.evc.specs.Answers.{answerNumber};
+ghost use Rattle.evc.specs.Tests.{first};
+ghost use Rattle.evc.specs.Tests as of;
+ghost use Rattle.evc.specs.Planes.{pastEdge};
+ghost use Rattle.sad.specs.Areas.{badPlane, outsidePlane, outsideEdges, middleTests};
+use evc::Answer;
+use evc::Refusal;
+
+// x is below lo or above hi.
+pub(crate) fn outside(lo: usize, hi: usize, x: usize) -> bool
+    ensures { λ r. ⌜ r ≡ of.outside lo hi x ⌝ }
+{
+    if x < lo { true } else { hi < x }
+}
+
+// n samples are too few for rows of this width, height and stride. The product of two large numbers isn't formed.
+fn too_short(n: usize, width: usize, height: usize, stride: usize) -> bool
+    requires { ⌜ height ≤ 16384 ⌝ }
+    ensures { λ r. ⌜ r ≡ ltb n (reach 0 width stride height) ⌝ }
+{
+    if n < width {
+        return true;
+    }
+    let room = n - width;
+    let rows = if height == 0 { 0 } else { height - 1 };
+    if stride < 4294967296 {
+        return room < rows * stride;
+    }
+    room / stride < rows
+}
+
+// A plane of n samples breaks the rule of planes.
+fn malformed(n: usize, width: usize, height: usize, stride: usize) -> bool
+    ensures { λ r. ⌜ r ≡ badPlane n width height stride ⌝ }
+{
+    if outside(1, 16384, width) {
+        return true;
+    }
+    if outside(1, 16384, height) {
+        return true;
+    }
+    if stride < width {
+        return true;
+    }
+    too_short(n, width, height, stride)
+}
+
+// w places from x on reach past a side.
+fn beyond(x: usize, w: usize, side: usize) -> bool
+    ensures { λ r. ⌜ r ≡ ltb side (x + w) ⌝ }
+{
+    if side < w { true } else { side - w < x }
+}
+
+// The same from a place that may be negative.
+fn past(x: i16, w: usize, side: usize) -> bool
+    requires { ⌜ side ≤ 16384 ⌝ }
+    ensures { λ r. ⌜ r ≡ pastEdge x w side ⌝ }
+{
+    if x < 0 {
+        let back = (0 - (x as i32)) as usize;
+        return side + back < w;
+    }
+    beyond(x as usize, w, side)
+}
+
+// w by h samples from (x, y) don't lie inside a plane of n samples, or it is malformed.
+pub(crate) fn outside_plane(n: usize, width: usize, height: usize, stride: usize, x: usize, y: usize, w: usize, h: usize) -> bool
+    ensures { λ r. ⌜ r ≡ outsidePlane n width height stride x y w h ⌝ }
+{
+    if malformed(n, width, height, stride) {
+        return true;
+    }
+    if beyond(x, w, width) { true } else { beyond(y, h, height) }
+}
+
+// The same where x and y may be negative: only the far edges count.
+pub(crate) fn outside_edges(n: usize, width: usize, height: usize, stride: usize, x: i16, y: i16, w: usize, h: usize) -> bool
+    ensures { λ r. ⌜ r ≡ outsideEdges n width height stride x y w h ⌝ }
+{
+    if malformed(n, width, height, stride) {
+        return true;
+    }
+    if past(x, w, width) { true } else { past(y, h, height) }
+}
+
+// DEPTH, then AREA of either block.
+pub(crate) fn middle(depth: u8, one: bool, two: bool) -> Answer
+    ensures { λ r. ⌜ answerNumber r ≡ first (middleTests depth one two) ⌝ }
+{
+    if depth < 8 {
+        return Answer::Refused(Refusal::Depth);
+    }
+    if 14 < depth {
+        return Answer::Refused(Refusal::Depth);
+    }
+    if one {
+        return Answer::Refused(Refusal::Area);
+    }
+    if two {
+        return Answer::Refused(Refusal::Area);
+    }
+    Answer::Done
+}
