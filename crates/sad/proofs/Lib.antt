@@ -1,5 +1,7 @@
 -- Laws that several proofs of this crate need.
 pub mod Laws
+pub mod Booleans
+pub mod Signed
 pub mod Samples
 pub mod Running
 pub mod Cells

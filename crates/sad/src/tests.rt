@@ -23,14 +23,14 @@ pub(crate) fn outside(lo: usize, hi: usize, x: usize) -> bool
 
 // n samples are too few for rows of this width, height and stride. The product of two large numbers isn't formed.
 fn too_short(n: usize, width: usize, height: usize, stride: usize) -> bool
-    requires { ⌜ height ≤ 16384 ⌝ }
+    requires { ⌜ (1 ≤ height) × (height ≤ 16384) ⌝ }
     ensures { λ r. ⌜ r ≡ ltb n (reach 0 width stride height) ⌝ }
 {
     if n < width {
         return true;
     }
     let room = n - width;
-    let rows = if height == 0 { 0 } else { height - 1 };
+    let rows = height - 1;
     if stride < 4294967296 {
         return room < rows * stride;
     }
@@ -60,16 +60,13 @@ fn beyond(x: usize, w: usize, side: usize) -> bool
     if side < w { true } else { side - w < x }
 }
 
-// The same from a place that may be negative.
+// The same from a place that may be negative: both are counted from the lowest i16 on.
 fn past(x: i16, w: usize, side: usize) -> bool
     requires { ⌜ side ≤ 16384 ⌝ }
     ensures { λ r. ⌜ r ≡ pastEdge x w side ⌝ }
 {
-    if x < 0 {
-        let back = (0 - (x as i32)) as usize;
-        return side + back < w;
-    }
-    beyond(x as usize, w, side)
+    let from = ((x as i32) + 32768) as usize;
+    beyond(from, w, side + 32768)
 }
 
 // w by h samples from (x, y) don't lie inside a plane of n samples, or it is malformed.
