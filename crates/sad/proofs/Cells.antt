@@ -67,3 +67,7 @@ told-most {w} {s} {m} {f} b t h k = le-trans (le-of-eq (t .total)) (row-most w b
 -- a width that a literal names
 pub compared-at : (w k h : ℕ) (f g : ℕ → ℕ → ℕ) {s m : ℕ} → w ≡ k → Compared k h f g s m → Compared w h f g s m
 compared-at w k h f g {s} {m} e t = subst (λ (n : ℕ). Compared n h f g s m) (sym e) t
+
+-- a block of at most 64 by 64
+pub compared-most : (w h b : ℕ) (f g : ℕ → ℕ → ℕ) {s m : ℕ} → Compared w h f g s m → w ≤ 64 → h ≤ 64 → ((j i : ℕ) → f j i ≤ b) → s ≤ 64 * (64 * b)
+compared-most w h b f g t p q k = told-most (64 * b) t q (λ j. row-most w b (f j) p (k j))

@@ -1,8 +1,11 @@
 -- Laws that belong lower.
 -- ---- for integers
 use mathlib.Core.Path.{_≡_, refl, sym, ap, _∙_}
-use Prim.Native.Nat.{ℕ, _+_, _-_, _≤_, _<_}
+use Prim.Native.Nat.{ℕ, _+_, _-_, _/_, _^_, _≤_, _<_}
+use native.Mathlib.Nat.{div-eq-of-lt, div-lt-iff-lt-mul}
+use native.Mathlib.Decide.{decLt}
 use native.Mathlib.Omega.{arith}
+use lib.Pow.{pow-pos}
 use lib.IntN.{ℤ, pos, negsuc, natAbs, _-ℤ_}
 use Rattle.integers.proofs.Dif.{dif, up, dn, of-pos, dif-part, dif-eq, difs}
 
@@ -20,3 +23,14 @@ abs-dif a b = ap natAbs (dif-of (pos a) (pos b) (of-pos a) (of-pos b)) ∙ by (d
 -- two numbers that a bound holds are no farther apart than it
 pub abs-dif-le : (n a b : ℕ) → a ≤ n → b ≤ n → natAbs (pos a -ℤ pos b) ≤ n
 abs-dif-le n a b h k = rw (abs-dif a b) (omega arith)
+
+-- a shift to the right leaves something exactly where the number reaches the power
+pub div-some : (n k : ℕ) → (n / 2 ^ k ≡ 0 → ⊥) → 2 ^ k ≤ n
+div-some n k h = go (decLt n (2 ^ k))
+  where
+    go : Dec (n < 2 ^ k) → 2 ^ k ≤ n
+    go (yes p) = absurd (h (div-eq-of-lt p))
+    go (no p) = omega arith
+
+pub div-none : (n k : ℕ) → n / 2 ^ k ≡ 0 → n < 2 ^ k
+div-none n k e = let h : n / 2 ^ k < 1 = omega arith in omega (arith, div-lt-iff-lt-mul (pow-pos k) .0 h)

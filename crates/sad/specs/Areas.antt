@@ -2,15 +2,12 @@
 -- evc says of a plane. Assumes nothing.
 use Prim.Native.Nat.{ℕ, _+_}
 use mathlib.Core.Bool.{Bool, _||_}
-use mathlib.Core.List.{List, [], _∷_}
+use mathlib.Core.List.{List}
 use lib.Dec.{ltb}
-use lib.ListN.{length}
 use lib.IntN.{ℤ}
 use Rattle.order.specs.Positions.{reach}
-use Rattle.evc.specs.declared.Refusal.the-variants.{Area}
-use Rattle.evc.specs.Tests.{Test, _when_, outside}
+use Rattle.evc.specs.Tests.{outside}
 use Rattle.evc.specs.Planes.{Plane, pastEdge}
-use Rattle.evc.specs.Calls.{depthTest}
 
 -- a plane as a public function is given it
 abbrev pub planeOf : {A : Type 0} → List A → ℕ → ℕ → ℕ → Plane A
@@ -28,7 +25,3 @@ outsidePlane n width height stride x y w h = badPlane n width height stride || l
 -- the same where x and y may be negative
 abbrev pub outsideEdges : ℕ → ℕ → ℕ → ℕ → ℤ → ℤ → ℕ → ℕ → Bool
 outsideEdges n width height stride x y w h = badPlane n width height stride || pastEdge x w width || pastEdge y h height
-
--- the tests between those of the sizes and those of the samples, where each block's AREA is known
-abbrev pub middleTests : ℕ → Bool → Bool → List Test
-middleTests depth one two = depthTest depth ∷ (Area when one) ∷ (Area when two) ∷ []

@@ -2,3 +2,4 @@
 pub mod Or
 pub mod Totals
 pub mod Areas
+pub mod Rests

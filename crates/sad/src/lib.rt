@@ -1,4 +1,7 @@
 // The distortion calls, after the Rust's enc/sad.rs: each public function tests, then compares two blocks row by row.
 mod blocks;
 mod rows;
+mod sad;
 mod tests;
+
+pub use sad::evce_sad_16i;

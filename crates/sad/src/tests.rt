@@ -6,19 +6,22 @@ ghost use mathlib.Core.Bool.{_||_};
 ghost use Prim.Native.Nat.{_+_, _≤_};
 ghost use lib.Dec.{ltb};
 ghost use Rattle.order.specs.Positions.{reach};
-ghost use Rattle.evc.specs.Answers.{answerNumber};
-ghost use Rattle.evc.specs.Tests.{first};
 ghost use Rattle.evc.specs.Tests as of;
 ghost use Rattle.evc.specs.Planes.{pastEdge};
-ghost use Rattle.sad.specs.Areas.{badPlane, outsidePlane, outsideEdges, middleTests};
-use evc::Answer;
-use evc::Refusal;
+ghost use Rattle.sad.specs.Areas.{badPlane, outsidePlane, outsideEdges};
 
 // x is below lo or above hi.
 pub(crate) fn outside(lo: usize, hi: usize, x: usize) -> bool
     ensures { λ r. ⌜ r ≡ of.outside lo hi x ⌝ }
 {
     if x < lo { true } else { hi < x }
+}
+
+// Either side of a SAD's block is not allowed.
+pub(crate) fn sides(w: usize, h: usize) -> bool
+    ensures { λ r. ⌜ r ≡ of.outside 1 64 w || of.outside 1 64 h ⌝ }
+{
+    if outside(1, 64, w) { true } else { outside(1, 64, h) }
 }
 
 // n samples are too few for rows of this width, height and stride. The product of two large numbers isn't formed.
@@ -89,21 +92,9 @@ pub(crate) fn outside_edges(n: usize, width: usize, height: usize, stride: usize
     if past(x, w, width) { true } else { past(y, h, height) }
 }
 
-// DEPTH, then AREA of either block.
-pub(crate) fn middle(depth: u8, one: bool, two: bool) -> Answer
-    ensures { λ r. ⌜ answerNumber r ≡ first (middleTests depth one two) ⌝ }
+// A depth that is not allowed.
+pub(crate) fn wrong_depth(depth: u8) -> bool
+    ensures { λ r. ⌜ r ≡ of.outside 8 14 depth ⌝ }
 {
-    if depth < 8 {
-        return Answer::Refused(Refusal::Depth);
-    }
-    if 14 < depth {
-        return Answer::Refused(Refusal::Depth);
-    }
-    if one {
-        return Answer::Refused(Refusal::Area);
-    }
-    if two {
-        return Answer::Refused(Refusal::Area);
-    }
-    Answer::Done
+    if depth < 8 { true } else { 14 < depth }
 }
