@@ -8,3 +8,4 @@ pub mod Cells
 pub mod Marks
 pub mod Replies
 pub mod Planes
+pub mod Logs

@@ -2,6 +2,8 @@
 mod blocks;
 mod rows;
 mod sad;
+mod ssd;
 mod tests;
 
 pub use sad::evce_sad_16i;
+pub use ssd::evce_ssd_16b;

@@ -3,7 +3,7 @@
 // Differs from the Rust in: the Rust tests nothing.
 ghost use mathlib.Core.Path.{_≡_};
 ghost use mathlib.Core.Bool.{_||_};
-ghost use Prim.Native.Nat.{_+_, _≤_};
+ghost use Prim.Native.Nat.{_+_, _^_, _≤_};
 ghost use lib.Dec.{ltb};
 ghost use Rattle.order.specs.Positions.{reach};
 ghost use Rattle.evc.specs.Tests as of;
@@ -22,6 +22,21 @@ pub(crate) fn sides(w: usize, h: usize) -> bool
     ensures { λ r. ⌜ r ≡ of.outside 1 64 w || of.outside 1 64 h ⌝ }
 {
     if outside(1, 64, w) { true } else { outside(1, 64, h) }
+}
+
+// Either side's logarithm is not allowed.
+pub(crate) fn logs(log2_w: usize, log2_h: usize) -> bool
+    ensures { λ r. ⌜ r ≡ ltb 6 «log2_w» || ltb 6 «log2_h» ⌝ }
+{
+    if 6 < log2_w { true } else { 6 < log2_h }
+}
+
+// The side that a logarithm stands for.
+pub(crate) fn side(log2: usize) -> usize
+    requires { ⌜ log2 ≤ 6 ⌝ }
+    ensures { λ r. ⌜ r ≡ 2 ^ log2 ⌝ }
+{
+    1usize << log2
 }
 
 // n samples are too few for rows of this width, height and stride. The product of two large numbers isn't formed.
