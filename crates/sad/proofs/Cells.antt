@@ -10,6 +10,7 @@ use Rattle.integers.specs.Sum.{ofN+, sumN}
 use Rattle.integers.proofs.Sum.{sum-ext, sum-le}
 use Rattle.order.specs.Positions.{reach}
 use Rattle.sad.specs.Or.{ofOr}
+use Rattle.sad.specs.Small.{SmallRows, SmallBlocks, Ready}
 use Rattle.sad.specs.Totals.{Told, Compared, TwoRows, TwoBlocks, rowOf, cell}
 
 -- row j ends no later than the last row
@@ -71,3 +72,16 @@ compared-at w k h f g {s} {m} e t = subst (λ (n : ℕ). Compared n h f g s m) (
 -- a block of at most 64 by 64
 pub compared-most : (w h b : ℕ) (f g : ℕ → ℕ → ℕ) {s m : ℕ} → Compared w h f g s m → w ≤ 64 → h ≤ 64 → ((j i : ℕ) → f j i ≤ b) → s ≤ 64 * (64 * b)
 compared-most w h b f g t p q k = told-most (64 * b) t q (λ j. row-most w b (f j) p (k j))
+
+-- rows of blocks whose samples are small
+pub small-rows :
+    (w h : ℕ) (a : List ℕ) (s t : ℕ) (b : List ℕ) (s′ t′ : ℕ) → SmallBlocks w h a s t b s′ t′ → (j : ℕ) → j < h → (p q : List ℕ) → p ≡ rowOf a s t j w →
+    q ≡ rowOf b s′ t′ j w → SmallRows w p q
+small-rows w h a s t b s′ t′ k j n p q e f = record {
+  first = λ i m. let r : getD p i 0 ≡ cell 0 a s t j i = ap (λ (l : List ℕ). getD l i 0) e ∙ row-at a s t j w 0 i m in omega (arith, k .first j i n m);
+  second = λ i m. let r : getD q i 0 ≡ cell 0 b s′ t′ j i = ap (λ (l : List ℕ). getD l i 0) f ∙ row-at b s′ t′ j w 0 i m in omega (arith, k .second j i n m);
+}
+
+-- a width that a literal names
+pub ready-at : (w k h : ℕ) (a : List ℕ) (s t : ℕ) (b : List ℕ) (s′ t′ n : ℕ) → w ≡ k → Ready w h a s t b s′ t′ n → Ready k h a s t b s′ t′ n
+ready-at w k h a s t b s′ t′ n e r = subst (λ (x : ℕ). Ready x h a s t b s′ t′ n) e r

@@ -5,6 +5,7 @@ pub mod Signed
 pub mod Samples
 pub mod Running
 pub mod Cells
+pub mod Grid
 pub mod Marks
 pub mod Replies
 pub mod Planes

@@ -3,3 +3,4 @@ pub mod Or
 pub mod Totals
 pub mod Areas
 pub mod Rests
+pub mod Small

@@ -1,5 +1,6 @@
 // The distortion calls, after the Rust's enc/sad.rs: each public function tests, then compares two blocks row by row.
 mod blocks;
+mod diff;
 mod rows;
 mod sad;
 mod ssd;
