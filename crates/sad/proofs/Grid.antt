@@ -26,8 +26,8 @@ unfolding written
 written-part {A} n w k g l cur row d e f =
     let p : take n cur ≡ tab n g = ap (take n) e ∙ take-at (tab n g) (drop n l) n (tab-length n g) in
     let q : drop k (drop n cur) ≡ drop (n + w) l =
-        ap (λ (m : ℕ). drop m (drop n cur)) d ∙ ap (λ (r : List A). drop w (drop n r)) e ∙ ap (drop w) (drop-at (tab n g) (drop n l) n (tab-length n g))
-        ∙ drop-drop w n l
+    ap (λ (m : ℕ). drop m (drop n cur)) d ∙ ap (λ (r : List A). drop w (drop n r)) e ∙ ap (drop w) (drop-at (tab n g) (drop n l) n (tab-length n g))
+    ∙ drop-drop w n l
     in
     ap₂ (λ (s t : List A). s ++ (row ++ t)) p q ∙ ap (λ (r : List A). tab n g ++ (r ++ drop (n + w) l)) f
     ∙ sym (append-assoc (tab n g) (tab w (λ i. g (n + i))) (drop (n + w) l)) ∙ ap (λ (s : List A). s ++ drop (n + w) l) (tab-append n w g)

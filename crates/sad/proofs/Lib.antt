@@ -10,3 +10,4 @@ pub mod Marks
 pub mod Replies
 pub mod Planes
 pub mod Logs
+pub mod Differing

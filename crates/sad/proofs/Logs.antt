@@ -12,7 +12,7 @@ use Rattle.evc.specs.Answers.{Reply, refused}
 use Rattle.evc.specs.Tests.{first, reply, outside, logSizes}
 use Rattle.evc.specs.Planes.{Block}
 use Rattle.evc.specs.Differences.{difference, ssdTotal}
-use Rattle.evc.specs.Calls.{compareTests, ssdReply}
+use Rattle.evc.specs.Calls.{compareTests, sampleTests, ssdReply}
 use Rattle.sad.specs.Rests.{rest}
 use Rattle.sad.proofs.Booleans.{or-left, or-right}
 use Rattle.sad.proofs.Replies.{at-size, at-depth, at-area, at-second, at-rest}
@@ -28,29 +28,38 @@ module _ (logw logh depth : ℕ) (A B : ℕ → ℕ → Block) where
   abbrev promised : Reply ℤ
   promised = ssdReply logw logh depth (A (2 ^ logw) (2 ^ logh)) (B (2 ^ logw) (2 ^ logh))
 
-  abbrev ssdValue : ℕ → ℕ → ℤ
-  ssdValue w h = pos (ssdTotal (2 * (depth - 8)) w h (difference (A w h) (B w h)))
+  module _ (w h : ℕ) (p : w ≡ 2 ^ logw) (q : h ≡ 2 ^ logh) where
+    abbrev ssdValue : ℤ
+    ssdValue = pos (ssdTotal (2 * (depth - 8)) w h (difference (A w h) (B w h)))
+
+    -- from the number to the answer
+    ssd-of : (n : ℕ) → n ≡ first (compareTests (logSizes logw logh) w h depth (A w h) (B w h)) → reply n ssdValue ≡ promised
+    unfolding ssdReply
+    ssd-of n e =
+        ap (λ (m : ℕ). reply m ssdValue) e
+        ∙ ap₂ (λ (w h : ℕ). reply (first (compareTests (logSizes logw logh) w h depth (A w h) (B w h))) (pos (ssdTotal (2 * (depth - 8)) w h (difference (A w h) (B w h)))))
+        p q
+
+    module _ (e : ltb 6 logw || ltb 6 logh ≡ false) where
+      pub ssd-depth : outside 8 14 depth ≡ true → refused 4 ≡ promised
+      ssd-depth f = ssd-of 4 (at-depth (ltb 6 logw) (ltb 6 logh) depth (A w h .area) (B w h .area) (sampleTests w h (A w h) (B w h)) e f)
+
+      module _ (f : outside 8 14 depth ≡ false) where
+        pub ssd-area : A w h .area ≡ true → refused 5 ≡ promised
+        ssd-area g = ssd-of 5 (at-area (ltb 6 logw) (ltb 6 logh) depth (A w h .area) (B w h .area) (sampleTests w h (A w h) (B w h)) e f g)
+
+        module _ (g : A w h .area ≡ false) where
+          pub ssd-second : B w h .area ≡ true → refused 5 ≡ promised
+          ssd-second k = ssd-of 5 (at-second (ltb 6 logw) (ltb 6 logh) depth (A w h .area) (B w h .area) (sampleTests w h (A w h) (B w h)) e f g k)
+
+          pub ssd-rest : B w h .area ≡ false → rest w h (A w h) (B w h) ssdValue ≡ promised
+          unfolding rest
+          ssd-rest k =
+              ssd-of (first (sampleTests w h (A w h) (B w h)))
+              (at-rest (ltb 6 logw) (ltb 6 logh) depth (A w h .area) (B w h .area) (sampleTests w h (A w h) (B w h)) e f g k)
 
   pub ssd-size : ltb 6 logw || ltb 6 logh ≡ true → refused 1 ≡ promised
-  unfolding ssdReply
   ssd-size e =
-      at-size (ltb 6 logw) (ltb 6 logh) (2 ^ logw) (2 ^ logh) depth (A (2 ^ logw) (2 ^ logh)) (B (2 ^ logw) (2 ^ logh)) (ssdValue (2 ^ logw) (2 ^ logh)) e
-
-  module _ (w h : ℕ) (p : w ≡ 2 ^ logw) (q : h ≡ 2 ^ logh) (e : ltb 6 logw || ltb 6 logh ≡ false) where
-    same : reply (first (compareTests (logSizes logw logh) w h depth (A w h) (B w h))) (ssdValue w h) ≡ promised
-    unfolding ssdReply
-    same = ap₂ (λ (w h : ℕ). reply (first (compareTests (logSizes logw logh) w h depth (A w h) (B w h))) (ssdValue w h)) p q
-
-    pub ssd-depth : outside 8 14 depth ≡ true → refused 4 ≡ promised
-    ssd-depth f = at-depth (ltb 6 logw) (ltb 6 logh) w h depth (A w h) (B w h) (ssdValue w h) e f ∙ same
-
-    module _ (f : outside 8 14 depth ≡ false) where
-      pub ssd-area : A w h .area ≡ true → refused 5 ≡ promised
-      ssd-area g = at-area (ltb 6 logw) (ltb 6 logh) w h depth (A w h) (B w h) (ssdValue w h) e f g ∙ same
-
-      module _ (g : A w h .area ≡ false) where
-        pub ssd-second : B w h .area ≡ true → refused 5 ≡ promised
-        ssd-second k = at-second (ltb 6 logw) (ltb 6 logh) w h depth (A w h) (B w h) (ssdValue w h) e f g k ∙ same
-
-        pub ssd-rest : B w h .area ≡ false → rest w h (A w h) (B w h) (ssdValue w h) ≡ promised
-        ssd-rest k = at-rest (ltb 6 logw) (ltb 6 logh) w h depth (A w h) (B w h) (ssdValue w h) e f g k ∙ same
+      let w = 2 ^ logw in
+      let h = 2 ^ logh in
+      ssd-of w h refl refl 1 (at-size (ltb 6 logw) (ltb 6 logh) depth (A w h .area) (B w h .area) (sampleTests w h (A w h) (B w h)) e)

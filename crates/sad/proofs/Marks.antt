@@ -2,6 +2,8 @@
 use mathlib.Core.Path.{_≡_, refl, sym, ap, ap₂, _∙_}
 use mathlib.Core.Bool.{Bool, true, false, _||_}
 use Prim.Native.Nat.{ℕ, zero, suc, _+_, _^_, _≤_, _<_}
+use native.Mathlib.Nat.{not-suc-le-zero}
+use native.Mathlib.Decide.{ℕ-discrete}
 use native.Mathlib.Omega.{arith}
 use lib.Dec.{leb}
 use lib.Pow.{pow-pos}
@@ -10,6 +12,7 @@ use borrow.Author.Tests.{leb-true, leb-false, le-leb, lt-leb}
 use Rattle.integers.specs.Sum.{sum}
 use Rattle.integers.proofs.Sum.{sum-add, sum-ext}
 use Rattle.evc.specs.Planes.{anyBelow}
+use Rattle.sad.proofs.Booleans.{or-left, or-right}
 use Rattle.sad.specs.Or.{ofOr, orN}
 
 -- ---- for integers
@@ -46,3 +49,22 @@ any-both w h k f g =
     (sum-ext ofOr h (λ j. orN w (λ i. bitOr (f j i) (g j i))) (λ j. bitOr (orN w (f j)) (orN w (g j))) (λ j p. sum-add ofOr w (f j) (g j))
     ∙ sum-add ofOr h (λ j. orN w (f j)) (λ j. orN w (g j)))
     ∙ or-reaches k (orN h (λ j. orN w (f j))) (orN h (λ j. orN w (g j))) ∙ ap₂ _||_ (any-rows w h k f) (any-rows w h k g)
+
+-- where no number below n has P, each has not
+pub any-none : (n : ℕ) (P : ℕ → Bool) → anyBelow n P ≡ false → (i : ℕ) → i < n → P i ≡ false
+any-none zero P e i h = absurd (not-suc-le-zero h)
+any-none (suc n) P e i h = go (any-none n P (or-left (anyBelow n P) (P n) e) i) (ℕ-discrete i n)
+  where
+    go : (i < n → P i ≡ false) → Dec (i ≡ n) → P i ≡ false
+    go f (yes q) = ap P q ∙ or-right (anyBelow n P) (P n) e
+    go f (no q) = f (omega arith)
+
+-- so an OR of all marks below a power of two bounds each mark
+pub below-all : (w h k : ℕ) (f g : ℕ → ℕ → ℕ) (any : ℕ) → any ≡ orN h (λ j. orN w (λ i. bitOr (f j i) (g j i))) → any < 2 ^ k → (j i : ℕ) → j < h → i < w → (f j i < 2 ^ k) × (g j i < 2 ^ k)
+below-all w h k f g any e p j i m n =
+    let F : ℕ → Bool = λ j. anyBelow w (λ i. leb (2 ^ k) (f j i)) in
+    let G : ℕ → Bool = λ j. anyBelow w (λ i. leb (2 ^ k) (g j i)) in
+    let t = sym (ap (leb (2 ^ k)) e ∙ any-both w h k f g) ∙ lt-leb (2 ^ k) any p in (
+      leb-false (2 ^ k) (f j i) (any-none w (λ i. leb (2 ^ k) (f j i)) (any-none h F (or-left (anyBelow h F) (anyBelow h G) t) j m) i n),
+      leb-false (2 ^ k) (g j i) (any-none w (λ i. leb (2 ^ k) (g j i)) (any-none h G (or-right (anyBelow h F) (anyBelow h G) t) j m) i n),
+    )

@@ -25,11 +25,11 @@ or-assoc =
     bin-ind (λ (n : ℕ). (b c : ℕ) → bitOr (bitOr n b) c ≡ bitOr n (bitOr b c))
     (λ b c. ap (λ (x : ℕ). bitOr x c) (or-zero-l b) ∙ sym (or-zero-l (bitOr b c)))
     (λ n ih b c.
-      or-step (bitOr n b) c
-      ∙ ap₂ (λ (x y : ℕ). x * 2 + y)
-        (ap (λ (x : ℕ). bitOr x (c / 2)) (or-shr n b 1) ∙ ih (b / 2) (c / 2) ∙ ap (λ (x : ℕ). bitOr (n / 2) x) (sym (or-shr b c 1)))
-        (ap (λ (x : ℕ). max x (c % 2)) (last n b) ∙ max-assoc (n % 2) (b % 2) (c % 2) ∙ ap (λ (x : ℕ). max (n % 2) x) (sym (last b c)))
-      ∙ sym (or-step n (bitOr b c)))
+    or-step (bitOr n b) c
+    ∙ ap₂ (λ (x y : ℕ). x * 2 + y)
+    (ap (λ (x : ℕ). bitOr x (c / 2)) (or-shr n b 1) ∙ ih (b / 2) (c / 2) ∙ ap (λ (x : ℕ). bitOr (n / 2) x) (sym (or-shr b c 1)))
+    (ap (λ (x : ℕ). max x (c % 2)) (last n b) ∙ max-assoc (n % 2) (b % 2) (c % 2) ∙ ap (λ (x : ℕ). max (n % 2) x) (sym (last b c)))
+    ∙ sym (or-step n (bitOr b c)))
 
 abbrev pub ofOr : Addition ℕ
 ofOr = record { none = 0; plus = bitOr; idl = or-zero-l; assoc = or-assoc; comm = or-comm }

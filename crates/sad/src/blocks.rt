@@ -8,14 +8,27 @@ ghost use lib.ListN.{length};
 ghost use Rattle.sad.specs.Totals.{TwoBlocks, Compared, cell, apart, squared};
 use crate::rows::Totals;
 
-fn sad_rows(a: &[u16], a_at: usize, a_stride: usize, b: &[u16], b_at: usize, b_stride: usize, w: usize, h: usize) -> Totals
+fn sad_rows(
+    a: &[u16],
+    a_at: usize,
+    a_stride: usize,
+    b: &[u16],
+    b_at: usize,
+    b_stride: usize,
+    w: usize,
+    h: usize,
+) -> Totals
     requires { ⌜ TwoBlocks w h (length (now a)) «a_at» «a_stride» (length (now b)) «b_at» «b_stride» ⌝ }
     ensures { λ r. ⌜ Compared w h (λ j i. apart (cell 0 (now (a .entry)) «a_at» «a_stride» j i) (cell 0 (now (b .entry)) «b_at» «b_stride» j i)) (λ j i. bitOr (cell 0 (now (a .entry)) «a_at» «a_stride» j i) (cell 0 (now (b .entry)) «b_at» «b_stride» j i)) (r .sum) (r .any) ⌝ }
 {
     let mut sum: u64 = 0;
     let mut any: u16 = 0;
     for j in 0..h {
-        let t = crate::rows::sad_row(crate::rows::row(a, a_at, a_stride, j, w), crate::rows::row(b, b_at, b_stride, j, w), w);
+        let t = crate::rows::sad_row(
+            crate::rows::row(a, a_at, a_stride, j, w),
+            crate::rows::row(b, b_at, b_stride, j, w),
+            w,
+        );
         sum = sum + t.sum;
         any = any | t.any;
     }
@@ -23,7 +36,16 @@ fn sad_rows(a: &[u16], a_at: usize, a_stride: usize, b: &[u16], b_at: usize, b_s
 }
 
 // SAD: the absolute differences, added.
-pub(crate) fn sad_block(a: &[u16], a_at: usize, a_stride: usize, b: &[u16], b_at: usize, b_stride: usize, w: usize, h: usize) -> Totals
+pub(crate) fn sad_block(
+    a: &[u16],
+    a_at: usize,
+    a_stride: usize,
+    b: &[u16],
+    b_at: usize,
+    b_stride: usize,
+    w: usize,
+    h: usize,
+) -> Totals
     requires { ⌜ TwoBlocks w h (length (now a)) «a_at» «a_stride» (length (now b)) «b_at» «b_stride» ⌝ }
     ensures { λ r. ⌜ Compared w h (λ j i. apart (cell 0 (now (a .entry)) «a_at» «a_stride» j i) (cell 0 (now (b .entry)) «b_at» «b_stride» j i)) (λ j i. bitOr (cell 0 (now (a .entry)) «a_at» «a_stride» j i) (cell 0 (now (b .entry)) «b_at» «b_stride» j i)) (r .sum) (r .any) ⌝ }
 {
@@ -37,7 +59,17 @@ pub(crate) fn sad_block(a: &[u16], a_at: usize, a_stride: usize, b: &[u16], b_at
     }
 }
 
-fn ssd_rows(a: &[u16], a_at: usize, a_stride: usize, b: &[u16], b_at: usize, b_stride: usize, w: usize, h: usize, shift: u8) -> Totals
+fn ssd_rows(
+    a: &[u16],
+    a_at: usize,
+    a_stride: usize,
+    b: &[u16],
+    b_at: usize,
+    b_stride: usize,
+    w: usize,
+    h: usize,
+    shift: u8,
+) -> Totals
     requires { ⌜ TwoBlocks w h (length (now a)) «a_at» «a_stride» (length (now b)) «b_at» «b_stride» ⌝ }
     requires { ⌜ shift ≤ 12 ⌝ }
     ensures { λ r. ⌜ Compared w h (λ j i. squared shift (cell 0 (now (a .entry)) «a_at» «a_stride» j i) (cell 0 (now (b .entry)) «b_at» «b_stride» j i)) (λ j i. bitOr (cell 0 (now (a .entry)) «a_at» «a_stride» j i) (cell 0 (now (b .entry)) «b_at» «b_stride» j i)) (r .sum) (r .any) ⌝ }
@@ -45,7 +77,12 @@ fn ssd_rows(a: &[u16], a_at: usize, a_stride: usize, b: &[u16], b_at: usize, b_s
     let mut sum: u64 = 0;
     let mut any: u16 = 0;
     for j in 0..h {
-        let t = crate::rows::ssd_row(crate::rows::row(a, a_at, a_stride, j, w), crate::rows::row(b, b_at, b_stride, j, w), w, shift);
+        let t = crate::rows::ssd_row(
+            crate::rows::row(a, a_at, a_stride, j, w),
+            crate::rows::row(b, b_at, b_stride, j, w),
+            w,
+            shift,
+        );
         sum = sum + t.sum;
         any = any | t.any;
     }
@@ -53,7 +90,17 @@ fn ssd_rows(a: &[u16], a_at: usize, a_stride: usize, b: &[u16], b_at: usize, b_s
 }
 
 // SSD: the squared differences, each divided by 2^shift, added.
-pub(crate) fn ssd_block(a: &[u16], a_at: usize, a_stride: usize, b: &[u16], b_at: usize, b_stride: usize, w: usize, h: usize, shift: u8) -> Totals
+pub(crate) fn ssd_block(
+    a: &[u16],
+    a_at: usize,
+    a_stride: usize,
+    b: &[u16],
+    b_at: usize,
+    b_stride: usize,
+    w: usize,
+    h: usize,
+    shift: u8,
+) -> Totals
     requires { ⌜ TwoBlocks w h (length (now a)) «a_at» «a_stride» (length (now b)) «b_at» «b_stride» ⌝ }
     requires { ⌜ shift ≤ 12 ⌝ }
     ensures { λ r. ⌜ Compared w h (λ j i. squared shift (cell 0 (now (a .entry)) «a_at» «a_stride» j i) (cell 0 (now (b .entry)) «b_at» «b_stride» j i)) (λ j i. bitOr (cell 0 (now (a .entry)) «a_at» «a_stride» j i) (cell 0 (now (b .entry)) «b_at» «b_stride» j i)) (r .sum) (r .any) ⌝ }

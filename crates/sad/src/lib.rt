@@ -6,5 +6,6 @@ mod sad;
 mod ssd;
 mod tests;
 
+pub use diff::evce_diff_16b;
 pub use sad::evce_sad_16i;
 pub use ssd::evce_ssd_16b;

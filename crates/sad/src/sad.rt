@@ -30,15 +30,39 @@ fn end(t: Totals, depth: u8) -> Distortion
 }
 
 // Two blocks of samples, after all other tests.
-fn of_blocks(a: &[u16], a_at: usize, a_stride: usize, b: &[u16], b_at: usize, b_stride: usize, w: usize, h: usize, depth: u8) -> Distortion
+fn of_blocks(
+    a: &[u16],
+    a_at: usize,
+    a_stride: usize,
+    b: &[u16],
+    b_at: usize,
+    b_stride: usize,
+    w: usize,
+    h: usize,
+    depth: u8,
+) -> Distortion
     requires { ⌜ TwoBlocks w h (length (now a)) «a_at» «a_stride» (length (now b)) «b_at» «b_stride» ⌝ }
     requires { ⌜ (8 ≤ depth) × (depth ≤ 14) ⌝ }
     ensures { λ r. ⌜ distortionReading r ≡ rest w h (strided (now (a .entry)) «a_at» «a_stride» depth) (strided (now (b .entry)) «b_at» «b_stride» depth) (sadTotal w h (difference (strided (now (a .entry)) «a_at» «a_stride» depth) (strided (now (b .entry)) «b_at» «b_stride» depth)) / 2 ^ (depth - 8)) ⌝ }
 {
-    end(crate::blocks::sad_block(a, a_at, a_stride, b, b_at, b_stride, w, h), depth)
+    end(
+        crate::blocks::sad_block(a, a_at, a_stride, b, b_at, b_stride, w, h),
+        depth,
+    )
 }
 
-pub fn evce_sad_16i(org: &[u16], width: usize, height: usize, stride: usize, x: usize, y: usize, w: usize, h: usize, pred: &[u16], depth: u8) -> Distortion
+pub fn evce_sad_16i(
+    org: &[u16],
+    width: usize,
+    height: usize,
+    stride: usize,
+    x: usize,
+    y: usize,
+    w: usize,
+    h: usize,
+    pred: &[u16],
+    depth: u8,
+) -> Distortion
     ensures { λ r. ⌜ distortionReading r ≡ sad16i (planeOf (now (org .entry)) width height stride) x y w h (now (pred .entry)) depth ⌝ }
 {
     if crate::tests::sides(w, h) {

@@ -31,15 +31,39 @@ fn end(t: Totals, depth: u8) -> SquaredDistortion
 }
 
 // Two blocks of samples, after all other tests.
-fn of_blocks(a: &[u16], a_at: usize, a_stride: usize, b: &[u16], b_at: usize, b_stride: usize, w: usize, h: usize, depth: u8) -> SquaredDistortion
+fn of_blocks(
+    a: &[u16],
+    a_at: usize,
+    a_stride: usize,
+    b: &[u16],
+    b_at: usize,
+    b_stride: usize,
+    w: usize,
+    h: usize,
+    depth: u8,
+) -> SquaredDistortion
     requires { ⌜ TwoBlocks w h (length (now a)) «a_at» «a_stride» (length (now b)) «b_at» «b_stride» ⌝ }
     requires { ⌜ (8 ≤ depth) × (depth ≤ 14) ⌝ }
     ensures { λ r. ⌜ squaredReading r ≡ rest w h (strided (now (a .entry)) «a_at» «a_stride» depth) (strided (now (b .entry)) «b_at» «b_stride» depth) (pos (ssdTotal (2 * (depth - 8)) w h (difference (strided (now (a .entry)) «a_at» «a_stride» depth) (strided (now (b .entry)) «b_at» «b_stride» depth)))) ⌝ }
 {
-    end(crate::blocks::ssd_block(a, a_at, a_stride, b, b_at, b_stride, w, h, 2 * (depth - 8)), depth)
+    end(
+        crate::blocks::ssd_block(a, a_at, a_stride, b, b_at, b_stride, w, h, 2 * (depth - 8)),
+        depth,
+    )
 }
 
-pub fn evce_ssd_16b(org: &[u16], width: usize, height: usize, stride: usize, x: usize, y: usize, log2_w: usize, log2_h: usize, cur: &[u16], depth: u8) -> SquaredDistortion
+pub fn evce_ssd_16b(
+    org: &[u16],
+    width: usize,
+    height: usize,
+    stride: usize,
+    x: usize,
+    y: usize,
+    log2_w: usize,
+    log2_h: usize,
+    cur: &[u16],
+    depth: u8,
+) -> SquaredDistortion
     ensures { λ r. ⌜ squaredReading r ≡ ssd16b (planeOf (now (org .entry)) width height stride) x y «log2_w» «log2_h» (now (cur .entry)) depth ⌝ }
 {
     if crate::tests::logs(log2_w, log2_h) {

@@ -21,7 +21,11 @@ pub(crate) fn outside(lo: usize, hi: usize, x: usize) -> bool
 pub(crate) fn sides(w: usize, h: usize) -> bool
     ensures { λ r. ⌜ r ≡ of.outside 1 64 w || of.outside 1 64 h ⌝ }
 {
-    if outside(1, 64, w) { true } else { outside(1, 64, h) }
+    if outside(1, 64, w) {
+        true
+    } else {
+        outside(1, 64, h)
+    }
 }
 
 // Either side's logarithm is not allowed.
@@ -88,23 +92,49 @@ fn past(x: i16, w: usize, side: usize) -> bool
 }
 
 // w by h samples from (x, y) don't lie inside a plane of n samples, or it is malformed.
-pub(crate) fn outside_plane(n: usize, width: usize, height: usize, stride: usize, x: usize, y: usize, w: usize, h: usize) -> bool
+pub(crate) fn outside_plane(
+    n: usize,
+    width: usize,
+    height: usize,
+    stride: usize,
+    x: usize,
+    y: usize,
+    w: usize,
+    h: usize,
+) -> bool
     ensures { λ r. ⌜ r ≡ outsidePlane n width height stride x y w h ⌝ }
 {
     if malformed(n, width, height, stride) {
         return true;
     }
-    if beyond(x, w, width) { true } else { beyond(y, h, height) }
+    if beyond(x, w, width) {
+        true
+    } else {
+        beyond(y, h, height)
+    }
 }
 
 // The same where x and y may be negative: only the far edges count.
-pub(crate) fn outside_edges(n: usize, width: usize, height: usize, stride: usize, x: i16, y: i16, w: usize, h: usize) -> bool
+pub(crate) fn outside_edges(
+    n: usize,
+    width: usize,
+    height: usize,
+    stride: usize,
+    x: i16,
+    y: i16,
+    w: usize,
+    h: usize,
+) -> bool
     ensures { λ r. ⌜ r ≡ outsideEdges n width height stride x y w h ⌝ }
 {
     if malformed(n, width, height, stride) {
         return true;
     }
-    if past(x, w, width) { true } else { past(y, h, height) }
+    if past(x, w, width) {
+        true
+    } else {
+        past(y, h, height)
+    }
 }
 
 // A depth that is not allowed.

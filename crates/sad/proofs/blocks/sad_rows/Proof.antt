@@ -65,9 +65,9 @@ most c j =
     let a = s .args in
     row-most (a .w) 65535 (λ i. apart (cell 0 (a .a .now) (a .a-at) (a .a-stride) j i) (cell 0 (a .b .now) (a .b-at) (a .b-stride) j i)) (s .pre .narrow)
     (λ i.
-      apart-le (cell 0 (a .a .now) (a .a-at) (a .a-stride) j i) (cell 0 (a .b .now) (a .b-at) (a .b-stride) j i)
-      (omega (arith, c .before .before .before .before .before .before .shared-slice-known .given (a .a-at + j * a .a-stride + i)))
-      (omega (arith, c .before .before .before .before .before .shared-slice-known2 .given (a .b-at + j * a .b-stride + i))))
+    apart-le (cell 0 (a .a .now) (a .a-at) (a .a-stride) j i) (cell 0 (a .b .now) (a .b-at) (a .b-stride) j i)
+    (omega (arith, c .before .before .before .before .before .before .shared-slice-known .given (a .a-at + j * a .a-stride + i)))
+    (omega (arith, c .before .before .before .before .before .shared-slice-known2 .given (a .b-at + j * a .b-stride + i))))
 
 add-sum : tie.Need-add-sum Inv-loop μ-loop
 add-sum c =

@@ -37,10 +37,11 @@ row-requires-2 c κs = in-two (c .before .before .before .before .before .pre .0
 
 ssd-row-requires : tie.Need-ssd-row-requires Inv-loop μ-loop
 ssd-row-requires c κs =
-    let a = c .before .before .before .before .before .before .args in
-    (two-rows (a .w) (a .h) (a .a .now) (a .a-at) (a .a-stride) (a .b .now) (a .b-at) (a .b-stride) (c .before .before .before .before .before .before .pre .0)
-    (c .before .before .before .loop .j) (omega arith) (c .before .row .result .now) (c .row2 .result .now) (c .before .row .ensures) (c .row2 .ensures),
-    c .before .before .before .before .before .before .pre .1)
+    let a = c .before .before .before .before .before .before .args in (
+      two-rows (a .w) (a .h) (a .a .now) (a .a-at) (a .a-stride) (a .b .now) (a .b-at) (a .b-stride) (c .before .before .before .before .before .before .pre .0)
+          (c .before .before .before .loop .j) (omega arith) (c .before .row .result .now) (c .row2 .result .now) (c .before .row .ensures) (c .row2 .ensures),
+      c .before .before .before .before .before .before .pre .1,
+    )
 
 -- what the rows told, said of the blocks
 told :
@@ -66,9 +67,9 @@ most c j =
     let a = s .args in
     row-most (a .w) 4294836225 (λ i. squared (a .shift) (cell 0 (a .a .now) (a .a-at) (a .a-stride) j i) (cell 0 (a .b .now) (a .b-at) (a .b-stride) j i)) (s .pre .0 .narrow)
     (λ i.
-      squared-le (a .shift) (cell 0 (a .a .now) (a .a-at) (a .a-stride) j i) (cell 0 (a .b .now) (a .b-at) (a .b-stride) j i)
-      (omega (arith, c .before .before .before .before .before .before .shared-slice-known .given (a .a-at + j * a .a-stride + i)))
-      (omega (arith, c .before .before .before .before .before .shared-slice-known2 .given (a .b-at + j * a .b-stride + i))))
+    squared-le (a .shift) (cell 0 (a .a .now) (a .a-at) (a .a-stride) j i) (cell 0 (a .b .now) (a .b-at) (a .b-stride) j i)
+    (omega (arith, c .before .before .before .before .before .before .shared-slice-known .given (a .a-at + j * a .a-stride + i)))
+    (omega (arith, c .before .before .before .before .before .shared-slice-known2 .given (a .b-at + j * a .b-stride + i))))
 
 add-sum : tie.Need-add-sum Inv-loop μ-loop
 add-sum c =

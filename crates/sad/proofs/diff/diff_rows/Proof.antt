@@ -64,11 +64,15 @@ diff-row-requires c κs =
     let l = c .before .before .before .before .loop in
     let t = c .before .before .before .loop-test .taken in
     let p = c .before .before .row in
-    let q = c .before .row2 in
-    (two-rows (a .w) (a .h) (a .a .now) (a .a-at) (a .a-stride) (a .b .now) (a .b-at) (a .b-stride) (s .pre .blocks) (l .j) t (p .result .now) (q .result .now)
-      (p .ensures) (q .ensures),
-      (small-rows (a .w) (a .h) (a .a .now) (a .a-at) (a .a-stride) (a .b .now) (a .b-at) (a .b-stride) (s .pre .small) (l .j) t (p .result .now) (q .result .now)
-        (p .ensures) (q .ensures), row-long (l .inv) t))
+    let q = c .before .row2 in (
+      two-rows (a .w) (a .h) (a .a .now) (a .a-at) (a .a-stride) (a .b .now) (a .b-at) (a .b-stride) (s .pre .blocks) (l .j) t (p .result .now) (q .result .now)
+          (p .ensures) (q .ensures),
+      (
+        small-rows (a .w) (a .h) (a .a .now) (a .a-at) (a .a-stride) (a .b .now) (a .b-at) (a .b-stride) (s .pre .small) (l .j) t (p .result .now) (q .result .now)
+            (p .ensures) (q .ensures),
+        row-long (l .inv) t,
+      ),
+    )
 
 -- what the row's differences are, by their places in the output
 placed :
@@ -86,9 +90,9 @@ placed c =
     c .diff-row .ensures
     ∙ tab-ext (a .w) (λ i. pos (getD (p .result .now) i 0) -ℤ pos (getD (q .result .now) i 0)) (λ i. diffAt (a .w) d (j * a .w + i))
     (λ i m.
-      ap₂ (λ (x y : ℕ). pos x -ℤ pos y) (ap (λ (l : List ℕ). getD l i 0) (p .ensures) ∙ row-at (a .a .now) (a .a-at) (a .a-stride) j (a .w) 0 i m)
-      (ap (λ (l : List ℕ). getD l i 0) (q .ensures) ∙ row-at (a .b .now) (a .b-at) (a .b-stride) j (a .w) 0 i m)
-      ∙ sym (grid-at d j i (a .w) m))
+    ap₂ (λ (x y : ℕ). pos x -ℤ pos y) (ap (λ (l : List ℕ). getD l i 0) (p .ensures) ∙ row-at (a .a .now) (a .a-at) (a .a-stride) j (a .w) 0 i m)
+    (ap (λ (l : List ℕ). getD l i 0) (q .ensures) ∙ row-at (a .b .now) (a .b-at) (a .b-stride) j (a .w) 0 i m)
+    ∙ sym (grid-at d j i (a .w) m))
 
 add-j : tie.Need-add-j Inv-loop μ-loop
 add-j c = omega arith

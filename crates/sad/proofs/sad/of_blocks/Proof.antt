@@ -37,9 +37,9 @@ end-requires c κs =
     let s = c .before .before .before in
     let a = s .args in
     let h =
-        compared-most (a .w) (a .h) 65535 (λ j i. apart (cell 0 (a .a .now) (a .a-at) (a .a-stride) j i) (cell 0 (a .b .now) (a .b-at) (a .b-stride) j i))
-        (λ j i. bitOr (cell 0 (a .a .now) (a .a-at) (a .a-stride) j i) (cell 0 (a .b .now) (a .b-at) (a .b-stride) j i)) (c .sad-block .ensures)
-        (s .pre .0 .narrow) (s .pre .0 .low) (λ j i. most c j i)
+    compared-most (a .w) (a .h) 65535 (λ j i. apart (cell 0 (a .a .now) (a .a-at) (a .a-stride) j i) (cell 0 (a .b .now) (a .b-at) (a .b-stride) j i))
+    (λ j i. bitOr (cell 0 (a .a .now) (a .a-at) (a .a-stride) j i) (cell 0 (a .b .now) (a .b-at) (a .b-stride) j i)) (c .sad-block .ensures)
+    (s .pre .0 .narrow) (s .pre .0 .low) (λ j i. most c j i)
     in
     (s .pre .1 .0, s .pre .1 .1, omega arith)
 
@@ -50,8 +50,8 @@ returns c =
     let t = c .before .sad-block .ensures in
     c .end .ensures
     ∙ marked-rest (a .w) (a .h) (a .depth) (strided (a .a .now) (a .a-at) (a .a-stride) (a .depth)) (strided (a .b .now) (a .b-at) (a .b-stride) (a .depth))
-    (cell 0 (a .a .now) (a .a-at) (a .a-stride)) (cell 0 (a .b .now) (a .b-at) (a .b-stride)) (c .before .sad-block .result .sum / 2 ^ (a .depth - 8)) (λ j i. refl)
-    (λ j i. refl) (t .marks)
+    (cell 0 (a .a .now) (a .a-at) (a .a-stride)) (cell 0 (a .b .now) (a .b-at) (a .b-stride)) (λ j i. refl) (λ j i. refl) (t .marks)
+    (c .before .sad-block .result .sum / 2 ^ (a .depth - 8))
     ∙ ap (λ (n : ℕ). rest (a .w) (a .h) (strided (a .a .now) (a .a-at) (a .a-stride) (a .depth)) (strided (a .b .now) (a .b-at) (a .b-stride) (a .depth)) (n / 2 ^ (a .depth - 8))) (t .total)
 
 pub of-blocks-spec : {M : Type 1} → statement M

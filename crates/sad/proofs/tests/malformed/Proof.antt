@@ -26,8 +26,11 @@ returns-2 c = rw (sym (c .before .before .before .outside .ensures) ∙ c .befor
 returns-3 : tie.Need-returns-3
 returns-3 c =
     let a = c .before .before .before .before .before .args in
-    rw (sym (c .before .before .before .before .outside .ensures) ∙ c .before .before .before .if1 .left,
-      sym (c .before .before .outside2 .ensures) ∙ c .before .if2 .left, lt-ltb (a .stride) (a .width) (c .if3 .taken))
+    rw (
+      sym (c .before .before .before .before .outside .ensures) ∙ c .before .before .before .if1 .left,
+      sym (c .before .before .outside2 .ensures) ∙ c .before .if2 .left,
+      lt-ltb (a .stride) (a .width) (c .if3 .taken),
+    )
 
 too-short-requires : tie.Need-too-short-requires
 too-short-requires c κs =
@@ -36,8 +39,11 @@ too-short-requires c κs =
 returns-4 : tie.Need-returns-4
 returns-4 c =
     let a = c .before .before .before .before .before .before .args in
-    rw (sym (c .before .before .before .before .before .outside .ensures) ∙ c .before .before .before .before .if1 .left,
-      sym (c .before .before .before .outside2 .ensures) ∙ c .before .before .if2 .left, le-ltb (a .stride) (a .width) (c .before .if3 .left))
+    rw (
+      sym (c .before .before .before .before .before .outside .ensures) ∙ c .before .before .before .before .if1 .left,
+      sym (c .before .before .before .outside2 .ensures) ∙ c .before .before .if2 .left,
+      le-ltb (a .stride) (a .width) (c .before .if3 .left),
+    )
     (c .too-short .ensures)
 
 pub malformed-spec : {M : Type 1} → statement M
