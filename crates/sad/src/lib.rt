@@ -1,4 +1,5 @@
 // The distortion calls, after the Rust's enc/sad.rs: each public function tests, then compares two blocks row by row.
+mod bi;
 mod blocks;
 mod diff;
 mod rows;
