@@ -52,3 +52,35 @@ fn sad_row(a: &[i16], b: &[u16], w: usize) -> Totals
     let all = sum as u64;
     Totals { sum: all, any: any }
 }
+
+// The same of two blocks, of which the first is packed.
+fn sad_rows(a: &[i16], b: &[u16], b_at: usize, b_stride: usize, w: usize, h: usize) -> Totals
+    requires { ⌜ TwoBlocks w h (length (now a)) 0 w (length (now b)) «b_at» «b_stride» ⌝ }
+    ensures { λ r. ⌜ Compared w h (λ j i. apartBi (cell (pos 0) (now (a .entry)) 0 w j i) (cell 0 (now (b .entry)) «b_at» «b_stride» j i)) (λ j i. bitOr (lowMark (cell (pos 0) (now (a .entry)) 0 w j i)) (cell 0 (now (b .entry)) «b_at» «b_stride» j i)) (r .sum) (r .any) ⌝ }
+    ensures { λ r. ⌜ r .sum ≤ h * 6291392 ⌝ }
+{
+    let mut sum: u64 = 0;
+    let mut any: u16 = 0;
+    for j in 0..h {
+        let t = sad_row(row(a, 0, w, j, w), crate::rows::row(b, b_at, b_stride, j, w), w);
+        sum = sum + t.sum;
+        any = any | t.any;
+    }
+    Totals { sum: sum, any: any }
+}
+
+// The same, with the common widths as literals.
+pub(crate) fn sad_block(a: &[i16], b: &[u16], b_at: usize, b_stride: usize, w: usize, h: usize) -> Totals
+    requires { ⌜ TwoBlocks w h (length (now a)) 0 w (length (now b)) «b_at» «b_stride» ⌝ }
+    ensures { λ r. ⌜ Compared w h (λ j i. apartBi (cell (pos 0) (now (a .entry)) 0 w j i) (cell 0 (now (b .entry)) «b_at» «b_stride» j i)) (λ j i. bitOr (lowMark (cell (pos 0) (now (a .entry)) 0 w j i)) (cell 0 (now (b .entry)) «b_at» «b_stride» j i)) (r .sum) (r .any) ⌝ }
+    ensures { λ r. ⌜ r .sum ≤ h * 6291392 ⌝ }
+{
+    match w {
+        64 => sad_rows(a, b, b_at, b_stride, 64, h),
+        32 => sad_rows(a, b, b_at, b_stride, 32, h),
+        16 => sad_rows(a, b, b_at, b_stride, 16, h),
+        8 => sad_rows(a, b, b_at, b_stride, 8, h),
+        4 => sad_rows(a, b, b_at, b_stride, 4, h),
+        _ => sad_rows(a, b, b_at, b_stride, w, h),
+    }
+}
