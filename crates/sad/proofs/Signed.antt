@@ -6,7 +6,7 @@ use lib.Dec.{ltb}
 use mathlib.Core.Bool.{false}
 use borrow.Author.Tests.{lt-ltb, le-ltb, ltb-false}
 use lib.IntN.{ℤ, pos, negsuc, _+ℤ_, _-ℤ_, negℤ, natAbs}
-use lib.Signed.{_≤ℤ_, ltZ}
+use lib.Signed.{_≤ℤ_, _<ℤ_, ltZ}
 use mir.Syntax.{w16}
 use mir.Val.{SFits}
 use Rattle.integers.proofs.Dif.{dif, up, dn, of, of-pos, dif-part, dif-eq, difs}
@@ -68,3 +68,11 @@ not-past x w side e = ltb-false (side + dn x) (up x + w) (sym (ends x w side) �
 pub edge-up : (x : ℤ) → edge x ≡ up x
 edge-up (pos n) = refl
 edge-up (negsuc n) = refl
+
+pub edge-neg : (x : ℤ) → x <ℤ pos 0 → 0 ≡ edge x
+edge-neg (pos n) h = let z : ⊥ = omega signed in absurd z
+edge-neg (negsuc n) h = refl
+
+pub edge-pos : (x : ℤ) → pos 0 ≤ℤ x → natAbs x ≡ edge x
+edge-pos (pos n) h = refl
+edge-pos (negsuc n) h = let z : ⊥ = omega signed in absurd z

@@ -2,6 +2,7 @@
 mod bi;
 mod blocks;
 mod diff;
+mod edges;
 mod rows;
 mod sad;
 mod ssd;
