@@ -52,10 +52,10 @@ edges-in n width height stride x y w h p q e =
       low = q .1;
       reads =
           λ j i m k.
-            let c = edge-below x w i width (f .wide .0) k a in
-            let d = edge-below y h j height (f .high .0) m b in
-            let g : edge (y +ℤ pos j) * stride ≤ (height - 1) * stride = mul-le-mul-right stride (omega arith) in
-            omega (arith, f .long);
+          let c = edge-below x w i width (f .wide .0) k a in
+          let d = edge-below y h j height (f .high .0) m b in
+          let g : edge (y +ℤ pos j) * stride ≤ (height - 1) * stride = mul-le-mul-right stride (omega arith) in
+          omega (arith, f .long);
     }
 
 -- the definitions read the same
@@ -87,9 +87,9 @@ module _ (l : List ℕ) (stride : ℕ) (x y : ℤ) (w h depth : ℕ) (t : Plain 
   plain-alike start e = record {
     reads =
         λ j i m n.
-          let d = add-mul (natAbs y) j stride in
-          let f : start + j * stride + i ≡ (natAbs y + j) * stride + (natAbs x + i) = omega arith in
-          ap (λ (k : ℕ). pos (getD l k 0)) (f ∙ sym (ap₂ (λ (a b : ℕ). a * stride + b) (sum-edge y j (t .down)) (sum-edge x i (t .across))));
+        let d = add-mul (natAbs y) j stride in
+        let f : start + j * stride + i ≡ (natAbs y + j) * stride + (natAbs x + i) = omega arith in
+        ap (λ (k : ℕ). pos (getD l k 0)) (f ∙ sym (ap₂ (λ (a b : ℕ). a * stride + b) (sum-edge y j (t .down)) (sum-edge x i (t .across))));
     bad = λ v. refl;
   }
 
@@ -110,10 +110,10 @@ unfolding cell edgeAt
 filled-alike l stride x y w h depth z = record {
   reads =
       λ j i m n.
-        let e : 0 + j * w + i ≡ j * w + i = omega arith in
-        ap pos
-        (ap (λ (k : ℕ). getD (written (h * w) (edgeAt l stride x y w) z) k 0) e
-        ∙ written-at (h * w) (edgeAt l stride x y w) z (j * w + i) 0 (place j i m n) ∙ grid-at (edgeCell l stride x y) j i w n);
+      let e : 0 + j * w + i ≡ j * w + i = omega arith in
+      ap pos
+      (ap (λ (k : ℕ). getD (written (h * w) (edgeAt l stride x y w) z) k 0) e
+      ∙ written-at (h * w) (edgeAt l stride x y w) z (j * w + i) 0 (place j i m n) ∙ grid-at (edgeCell l stride x y) j i w n);
   bad = λ v. refl;
 }
   where

@@ -43,3 +43,9 @@ pub record AtEdges (w h m start stride n stride′ : ℕ) (x y : ℤ) (depth : �
   pub one : reach start w stride h ≤ m
   pub two : EdgesIn n stride′ x y w h
   pub deep : (8 ≤ depth) × (depth ≤ 14)
+
+-- what is asked of two blocks at the edges of their planes
+pub record BothEdges (w h m stride n stride′ : ℕ) (x y : ℤ) (depth : ℕ) : Type 0 where
+  pub one : EdgesIn m stride x y w h
+  pub two : EdgesIn n stride′ x y w h
+  pub deep : (8 ≤ depth) × (depth ≤ 14)

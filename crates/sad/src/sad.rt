@@ -53,7 +53,19 @@ fn of_blocks(
 }
 
 // A block and one at the edges, which is first read into a packed block.
-fn through(org: &[u16], at: usize, stride: usize, reference: &[u16], ref_stride: usize, mv_x: i16, mv_y: i16, w: usize, h: usize, depth: u8, block: &mut [u16]) -> Distortion
+fn through(
+    org: &[u16],
+    at: usize,
+    stride: usize,
+    reference: &[u16],
+    ref_stride: usize,
+    mv_x: i16,
+    mv_y: i16,
+    w: usize,
+    h: usize,
+    depth: u8,
+    block: &mut [u16],
+) -> Distortion
     requires { ⌜ AtEdges w h (length (now org)) at stride (length (now reference)) «ref_stride» «mv_x» «mv_y» depth ⌝ }
     requires { ⌜ h * w ≤ length (now block) ⌝ }
     ensures { λ r. ⌜ distortionReading r ≡ rest w h (strided (now (org .entry)) at stride depth) (edged (now (reference .entry)) «ref_stride» «mv_x» «mv_y» depth) (sadTotal w h (difference (strided (now (org .entry)) at stride depth) (edged (now (reference .entry)) «ref_stride» «mv_x» «mv_y» depth)) / 2 ^ (depth - 8)) ⌝ }
@@ -62,27 +74,90 @@ fn through(org: &[u16], at: usize, stride: usize, reference: &[u16], ref_stride:
     of_blocks(org, at, stride, &block[..], 0, w, w, h, depth)
 }
 
-fn at_edges(org: &[u16], at: usize, stride: usize, reference: &[u16], ref_stride: usize, mv_x: i16, mv_y: i16, w: usize, h: usize, depth: u8) -> Distortion
+fn at_edges(
+    org: &[u16],
+    at: usize,
+    stride: usize,
+    reference: &[u16],
+    ref_stride: usize,
+    mv_x: i16,
+    mv_y: i16,
+    w: usize,
+    h: usize,
+    depth: u8,
+) -> Distortion
     requires { ⌜ AtEdges w h (length (now org)) at stride (length (now reference)) «ref_stride» «mv_x» «mv_y» depth ⌝ }
     ensures { λ r. ⌜ distortionReading r ≡ rest w h (strided (now (org .entry)) at stride depth) (edged (now (reference .entry)) «ref_stride» «mv_x» «mv_y» depth) (sadTotal w h (difference (strided (now (org .entry)) at stride depth) (edged (now (reference .entry)) «ref_stride» «mv_x» «mv_y» depth)) / 2 ^ (depth - 8)) ⌝ }
 {
     let mut block = [0u16; 4096];
-    through(org, at, stride, reference, ref_stride, mv_x, mv_y, w, h, depth, &mut block[..])
+    through(
+        org,
+        at,
+        stride,
+        reference,
+        ref_stride,
+        mv_x,
+        mv_y,
+        w,
+        h,
+        depth,
+        &mut block[..],
+    )
 }
 
 // The same; where neither position is negative, the block is compared where it stands.
-fn of_edges(org: &[u16], at: usize, stride: usize, reference: &[u16], ref_stride: usize, mv_x: i16, mv_y: i16, w: usize, h: usize, depth: u8) -> Distortion
+fn of_edges(
+    org: &[u16],
+    at: usize,
+    stride: usize,
+    reference: &[u16],
+    ref_stride: usize,
+    mv_x: i16,
+    mv_y: i16,
+    w: usize,
+    h: usize,
+    depth: u8,
+) -> Distortion
     requires { ⌜ AtEdges w h (length (now org)) at stride (length (now reference)) «ref_stride» «mv_x» «mv_y» depth ⌝ }
     ensures { λ r. ⌜ distortionReading r ≡ rest w h (strided (now (org .entry)) at stride depth) (edged (now (reference .entry)) «ref_stride» «mv_x» «mv_y» depth) (sadTotal w h (difference (strided (now (org .entry)) at stride depth) (edged (now (reference .entry)) «ref_stride» «mv_x» «mv_y» depth)) / 2 ^ (depth - 8)) ⌝ }
 {
     if crate::edges::negative(mv_x, mv_y) {
-        return at_edges(org, at, stride, reference, ref_stride, mv_x, mv_y, w, h, depth);
+        return at_edges(
+            org,
+            at,
+            stride,
+            reference,
+            ref_stride,
+            mv_x,
+            mv_y,
+            w,
+            h,
+            depth,
+        );
     }
-    of_blocks(org, at, stride, reference, crate::edges::start(ref_stride, mv_x, mv_y), ref_stride, w, h, depth)
+    of_blocks(
+        org,
+        at,
+        stride,
+        reference,
+        crate::edges::start(ref_stride, mv_x, mv_y),
+        ref_stride,
+        w,
+        h,
+        depth,
+    )
 }
 
 // Bi-prediction values and a block of samples, after all other tests.
-fn of_bi(bi: &[i16], b: &[u16], b_at: usize, b_stride: usize, w: usize, h: usize, depth: u8) -> Distortion
+fn of_bi(
+    bi: &[i16],
+    b: &[u16],
+    b_at: usize,
+    b_stride: usize,
+    w: usize,
+    h: usize,
+    depth: u8,
+) -> Distortion
     requires { ⌜ TwoBlocks w h (length (now bi)) 0 w (length (now b)) «b_at» «b_stride» ⌝ }
     requires { ⌜ (8 ≤ depth) × (depth ≤ 14) ⌝ }
     ensures { λ r. ⌜ distortionReading r ≡ rest w h (biRows (now (bi .entry)) w) (strided (now (b .entry)) «b_at» «b_stride» depth) (sadTotal w h (difference (biRows (now (bi .entry)) w) (strided (now (b .entry)) «b_at» «b_stride» depth)) / 2 ^ (depth - 8)) ⌝ }
@@ -91,7 +166,17 @@ fn of_bi(bi: &[i16], b: &[u16], b_at: usize, b_stride: usize, w: usize, h: usize
 }
 
 // The same with a block at the edges, as above.
-fn bi_through(bi: &[i16], reference: &[u16], ref_stride: usize, mv_x: i16, mv_y: i16, w: usize, h: usize, depth: u8, block: &mut [u16]) -> Distortion
+fn bi_through(
+    bi: &[i16],
+    reference: &[u16],
+    ref_stride: usize,
+    mv_x: i16,
+    mv_y: i16,
+    w: usize,
+    h: usize,
+    depth: u8,
+    block: &mut [u16],
+) -> Distortion
     requires { ⌜ AtEdges w h (length (now bi)) 0 w (length (now reference)) «ref_stride» «mv_x» «mv_y» depth ⌝ }
     requires { ⌜ h * w ≤ length (now block) ⌝ }
     ensures { λ r. ⌜ distortionReading r ≡ rest w h (biRows (now (bi .entry)) w) (edged (now (reference .entry)) «ref_stride» «mv_x» «mv_y» depth) (sadTotal w h (difference (biRows (now (bi .entry)) w) (edged (now (reference .entry)) «ref_stride» «mv_x» «mv_y» depth)) / 2 ^ (depth - 8)) ⌝ }
@@ -100,22 +185,58 @@ fn bi_through(bi: &[i16], reference: &[u16], ref_stride: usize, mv_x: i16, mv_y:
     of_bi(bi, &block[..], 0, w, w, h, depth)
 }
 
-fn bi_at_edges(bi: &[i16], reference: &[u16], ref_stride: usize, mv_x: i16, mv_y: i16, w: usize, h: usize, depth: u8) -> Distortion
+fn bi_at_edges(
+    bi: &[i16],
+    reference: &[u16],
+    ref_stride: usize,
+    mv_x: i16,
+    mv_y: i16,
+    w: usize,
+    h: usize,
+    depth: u8,
+) -> Distortion
     requires { ⌜ AtEdges w h (length (now bi)) 0 w (length (now reference)) «ref_stride» «mv_x» «mv_y» depth ⌝ }
     ensures { λ r. ⌜ distortionReading r ≡ rest w h (biRows (now (bi .entry)) w) (edged (now (reference .entry)) «ref_stride» «mv_x» «mv_y» depth) (sadTotal w h (difference (biRows (now (bi .entry)) w) (edged (now (reference .entry)) «ref_stride» «mv_x» «mv_y» depth)) / 2 ^ (depth - 8)) ⌝ }
 {
     let mut block = [0u16; 4096];
-    bi_through(bi, reference, ref_stride, mv_x, mv_y, w, h, depth, &mut block[..])
+    bi_through(
+        bi,
+        reference,
+        ref_stride,
+        mv_x,
+        mv_y,
+        w,
+        h,
+        depth,
+        &mut block[..],
+    )
 }
 
-fn bi_of_edges(bi: &[i16], reference: &[u16], ref_stride: usize, mv_x: i16, mv_y: i16, w: usize, h: usize, depth: u8) -> Distortion
+fn bi_of_edges(
+    bi: &[i16],
+    reference: &[u16],
+    ref_stride: usize,
+    mv_x: i16,
+    mv_y: i16,
+    w: usize,
+    h: usize,
+    depth: u8,
+) -> Distortion
     requires { ⌜ AtEdges w h (length (now bi)) 0 w (length (now reference)) «ref_stride» «mv_x» «mv_y» depth ⌝ }
     ensures { λ r. ⌜ distortionReading r ≡ rest w h (biRows (now (bi .entry)) w) (edged (now (reference .entry)) «ref_stride» «mv_x» «mv_y» depth) (sadTotal w h (difference (biRows (now (bi .entry)) w) (edged (now (reference .entry)) «ref_stride» «mv_x» «mv_y» depth)) / 2 ^ (depth - 8)) ⌝ }
 {
     if crate::edges::negative(mv_x, mv_y) {
         return bi_at_edges(bi, reference, ref_stride, mv_x, mv_y, w, h, depth);
     }
-    of_bi(bi, reference, crate::edges::start(ref_stride, mv_x, mv_y), ref_stride, w, h, depth)
+    of_bi(
+        bi,
+        reference,
+        crate::edges::start(ref_stride, mv_x, mv_y),
+        ref_stride,
+        w,
+        h,
+        depth,
+    )
 }
 
 pub fn evce_sad_16i(
@@ -165,7 +286,23 @@ pub fn evce_sad_bi_16i(bi: &[i16], pred: &[u16], w: usize, h: usize, depth: u8) 
     of_bi(bi, pred, 0, w, w, h, depth)
 }
 
-pub fn evce_sad_16b(org: &[u16], width: usize, height: usize, stride: usize, x: usize, y: usize, reference: &[u16], ref_width: usize, ref_height: usize, ref_stride: usize, mv_x: i16, mv_y: i16, w: usize, h: usize, depth: u8) -> Distortion
+pub fn evce_sad_16b(
+    org: &[u16],
+    width: usize,
+    height: usize,
+    stride: usize,
+    x: usize,
+    y: usize,
+    reference: &[u16],
+    ref_width: usize,
+    ref_height: usize,
+    ref_stride: usize,
+    mv_x: i16,
+    mv_y: i16,
+    w: usize,
+    h: usize,
+    depth: u8,
+) -> Distortion
     ensures { λ r. ⌜ distortionReading r ≡ sad16b (planeOf (now (org .entry)) width height stride) x y (planeOf (now (reference .entry)) «ref_width» «ref_height» «ref_stride») «mv_x» «mv_y» w h depth ⌝ }
 {
     if crate::tests::sides(w, h) {
@@ -177,13 +314,44 @@ pub fn evce_sad_16b(org: &[u16], width: usize, height: usize, stride: usize, x: 
     if crate::tests::outside_plane(org.len(), width, height, stride, x, y, w, h) {
         return Distortion::Refused(Refusal::Area);
     }
-    if crate::tests::outside_edges(reference.len(), ref_width, ref_height, ref_stride, mv_x, mv_y, w, h) {
+    if crate::tests::outside_edges(
+        reference.len(),
+        ref_width,
+        ref_height,
+        ref_stride,
+        mv_x,
+        mv_y,
+        w,
+        h,
+    ) {
         return Distortion::Refused(Refusal::Area);
     }
-    of_edges(org, y * stride + x, stride, reference, ref_stride, mv_x, mv_y, w, h, depth)
+    of_edges(
+        org,
+        y * stride + x,
+        stride,
+        reference,
+        ref_stride,
+        mv_x,
+        mv_y,
+        w,
+        h,
+        depth,
+    )
 }
 
-pub fn evce_sad_bi_16b(bi: &[i16], reference: &[u16], ref_width: usize, ref_height: usize, ref_stride: usize, mv_x: i16, mv_y: i16, w: usize, h: usize, depth: u8) -> Distortion
+pub fn evce_sad_bi_16b(
+    bi: &[i16],
+    reference: &[u16],
+    ref_width: usize,
+    ref_height: usize,
+    ref_stride: usize,
+    mv_x: i16,
+    mv_y: i16,
+    w: usize,
+    h: usize,
+    depth: u8,
+) -> Distortion
     ensures { λ r. ⌜ distortionReading r ≡ sadBi16b (now (bi .entry)) (planeOf (now (reference .entry)) «ref_width» «ref_height» «ref_stride») «mv_x» «mv_y» w h depth ⌝ }
 {
     if crate::tests::sides(w, h) {
@@ -195,7 +363,16 @@ pub fn evce_sad_bi_16b(bi: &[i16], reference: &[u16], ref_width: usize, ref_heig
     if crate::tests::malformed(bi.len(), w, h, w) {
         return Distortion::Refused(Refusal::Area);
     }
-    if crate::tests::outside_edges(reference.len(), ref_width, ref_height, ref_stride, mv_x, mv_y, w, h) {
+    if crate::tests::outside_edges(
+        reference.len(),
+        ref_width,
+        ref_height,
+        ref_stride,
+        mv_x,
+        mv_y,
+        w,
+        h,
+    ) {
         return Distortion::Refused(Refusal::Area);
     }
     bi_of_edges(bi, reference, ref_stride, mv_x, mv_y, w, h, depth)

@@ -18,9 +18,11 @@ slice-aggregate-through c = search needs
 through-requires : tie.Need-through-requires
 through-requires c κs =
     let s = c .before .before .before in
-    let a = s .args in
-    (as-bits (λ x y. AtEdges (a .w) (a .h) (length (a .org .now)) (a .at) (a .stride) (length (a .reference .now)) (a .ref-stride) x y (a .depth)) (s .fits .mv-x)
-      (s .fits .mv-y) (s .pre), mul-le-mul (s .pre .two .low) (s .pre .two .narrow))
+    let a = s .args in (
+      as-bits (λ x y. AtEdges (a .w) (a .h) (length (a .org .now)) (a .at) (a .stride) (length (a .reference .now)) (a .ref-stride) x y (a .depth)) (s .fits .mv-x)
+          (s .fits .mv-y) (s .pre),
+      mul-le-mul (s .pre .two .low) (s .pre .two .narrow),
+    )
 
 returns : tie.Need-returns
 returns c =
@@ -29,8 +31,8 @@ returns c =
     let A = strided (a .org .now) (a .at) (a .stride) (a .depth) in
     of-bits
     (λ x y.
-      let B = edged (a .reference .now) (a .ref-stride) x y (a .depth) in
-      distortionReading (c .before .through .result) ≡ rest (a .w) (a .h) A B (sadTotal (a .w) (a .h) (difference A B) / 2 ^ (a .depth - 8)))
+    let B = edged (a .reference .now) (a .ref-stride) x y (a .depth) in
+    distortionReading (c .before .through .result) ≡ rest (a .w) (a .h) A B (sadTotal (a .w) (a .h) (difference A B) / 2 ^ (a .depth - 8)))
     (s .fits .mv-x) (s .fits .mv-y) (c .before .through .ensures)
 
 pub at-edges-spec : {M : Type 1} → statement M

@@ -18,9 +18,11 @@ slice-aggregate-bi-through c = search needs
 bi-through-requires : tie.Need-bi-through-requires
 bi-through-requires c κs =
     let s = c .before .before in
-    let a = s .args in
-    (as-bits (λ x y. AtEdges (a .w) (a .h) (length (a .bi .now)) 0 (a .w) (length (a .reference .now)) (a .ref-stride) x y (a .depth)) (s .fits .mv-x)
-      (s .fits .mv-y) (s .pre), mul-le-mul (s .pre .two .low) (s .pre .two .narrow))
+    let a = s .args in (
+      as-bits (λ x y. AtEdges (a .w) (a .h) (length (a .bi .now)) 0 (a .w) (length (a .reference .now)) (a .ref-stride) x y (a .depth)) (s .fits .mv-x)
+          (s .fits .mv-y) (s .pre),
+      mul-le-mul (s .pre .two .low) (s .pre .two .narrow),
+    )
 
 returns : tie.Need-returns
 returns c =
@@ -29,8 +31,8 @@ returns c =
     let A = biRows (a .bi .now) (a .w) in
     of-bits
     (λ x y.
-      let B = edged (a .reference .now) (a .ref-stride) x y (a .depth) in
-      distortionReading (c .before .bi-through .result) ≡ rest (a .w) (a .h) A B (sadTotal (a .w) (a .h) (difference A B) / 2 ^ (a .depth - 8)))
+    let B = edged (a .reference .now) (a .ref-stride) x y (a .depth) in
+    distortionReading (c .before .bi-through .result) ≡ rest (a .w) (a .h) A B (sadTotal (a .w) (a .h) (difference A B) / 2 ^ (a .depth - 8)))
     (s .fits .mv-x) (s .fits .mv-y) (c .before .bi-through .ensures)
 
 pub bi-at-edges-spec : {M : Type 1} → statement M

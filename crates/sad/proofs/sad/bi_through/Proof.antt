@@ -25,8 +25,8 @@ of-bi-requires c κs =
     let p = s .pre .0 in
     let e = c .before .before .before .edge-block in
     let two =
-        filled-long (a .reference .now) (a .ref-stride) (toZ w16 (ofZ w16 (a .mv-x))) (toZ w16 (ofZ w16 (a .mv-y))) (a .w) (a .h) (a .depth) (a .block .now)
-        (e .last .1 .1 .1 .1 .1 .1 .0) (e .ensures) (p .two .high) (s .pre .1)
+    filled-long (a .reference .now) (a .ref-stride) (toZ w16 (ofZ w16 (a .mv-x))) (toZ w16 (ofZ w16 (a .mv-y))) (a .w) (a .h) (a .depth) (a .block .now)
+    (e .last .1 .1 .1 .1 .1 .1 .0) (e .ensures) (p .two .high) (s .pre .1)
     in
     (record { narrow = p .two .narrow; low = p .two .low; one = p .one; two = two }, p .deep)
 
@@ -41,10 +41,10 @@ returns c =
     let block = e .last .1 .1 .1 .1 .1 .1 .0 in
     let p = alike (a .w) (a .h) (biRows (a .bi .now) (a .w)) in
     let q =
-        of-bits (λ x y. Alike (a .w) (a .h) (strided block 0 (a .w) (a .depth)) (edged (a .reference .now) (a .ref-stride) x y (a .depth))) (s .fits .mv-x)
-        (s .fits .mv-y)
-        (filled-in (a .reference .now) (a .ref-stride) (toZ w16 (ofZ w16 (a .mv-x))) (toZ w16 (ofZ w16 (a .mv-y))) (a .w) (a .h) (a .depth) (a .block .now) block
-        (e .ensures))
+    of-bits (λ x y. Alike (a .w) (a .h) (strided block 0 (a .w) (a .depth)) (edged (a .reference .now) (a .ref-stride) x y (a .depth))) (s .fits .mv-x)
+    (s .fits .mv-y)
+    (filled-in (a .reference .now) (a .ref-stride) (toZ w16 (ofZ w16 (a .mv-x))) (toZ w16 (ofZ w16 (a .mv-y))) (a .w) (a .h) (a .depth) (a .block .now) block
+    (e .ensures))
     in
     c .of-bi .ensures ∙ rest-alike p q _ _ (ap (λ (n : ℕ). n / 2 ^ (a .depth - 8)) (sad-alike p q))
 

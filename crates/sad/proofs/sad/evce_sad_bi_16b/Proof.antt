@@ -96,8 +96,8 @@ returns-5 c =
     let q = edges-alike (a .reference .now) (a .ref-width) (a .ref-height) (a .ref-stride) (a .mv-x) (a .mv-y) (a .w) (a .h) (a .depth) in
     of-bits
     (λ x y.
-      let B = edged (a .reference .now) (a .ref-stride) x y (a .depth) in
-      distortionReading (c .bi-of-edges .result) ≡ rest (a .w) (a .h) A B (sadTotal (a .w) (a .h) (difference A B) / 2 ^ (a .depth - 8)))
+    let B = edged (a .reference .now) (a .ref-stride) x y (a .depth) in
+    distortionReading (c .bi-of-edges .result) ≡ rest (a .w) (a .h) A B (sadTotal (a .w) (a .h) (difference A B) / 2 ^ (a .depth - 8)))
     (s .fits .mv-x) (s .fits .mv-y) (c .bi-of-edges .ensures)
     ∙ rest-alike p q _ _ (ap (λ (n : ℕ). n / 2 ^ (a .depth - 8)) (sad-alike p q))
     ∙ sad-rest _ _ _ _ _ (sized (c .before .before .before .before .before .before .before)) (deep (c .before .before .before .before .before))

@@ -37,17 +37,18 @@ returns c =
     let A = strided (a .org .now) (a .at) (a .stride) (a .depth) in
     of-bits
     (λ x y.
-      let B = edged (a .reference .now) (a .ref-stride) x y (a .depth) in
-      distortionReading (c .at-edges .result) ≡ rest (a .w) (a .h) A B (sadTotal (a .w) (a .h) (difference A B) / 2 ^ (a .depth - 8)))
+    let B = edged (a .reference .now) (a .ref-stride) x y (a .depth) in
+    distortionReading (c .at-edges .result) ≡ rest (a .w) (a .h) A B (sadTotal (a .w) (a .h) (difference A B) / 2 ^ (a .depth - 8)))
     (s .fits .mv-x) (s .fits .mv-y) (c .at-edges .ensures)
 
 start-requires : tie.Need-start-requires
 start-requires c κs =
     let s = c .before .before .before .before in
     let a = s .args in
-    let k = plain-inside (a .reference .now) (a .ref-stride) (a .mv-x) (a .mv-y) (a .w) (a .h) (a .depth) (plain c) (s .pre .two) in
-    (as-bits Plain (s .fits .mv-x) (s .fits .mv-y) (plain c),
-      as-bits (λ x y. natAbs y * a .ref-stride + natAbs x < 2 ^ 64) (s .fits .mv-x) (s .fits .mv-y) (omega (arith, k, s .good)))
+    let k = plain-inside (a .reference .now) (a .ref-stride) (a .mv-x) (a .mv-y) (a .w) (a .h) (a .depth) (plain c) (s .pre .two) in (
+      as-bits Plain (s .fits .mv-x) (s .fits .mv-y) (plain c),
+      as-bits (λ x y. natAbs y * a .ref-stride + natAbs x < 2 ^ 64) (s .fits .mv-x) (s .fits .mv-y) (omega (arith, k, s .good)),
+    )
 
 -- where the block stands
 stands : (c : tie.After-start) → let a = c .before .before .before .before .before .args in c .start .result ≡ natAbs (a .mv-y) * a .ref-stride + natAbs (a .mv-x)
@@ -68,8 +69,8 @@ returns-2 c =
     let a = s .args in
     let p = alike (a .w) (a .h) (strided (a .org .now) (a .at) (a .stride) (a .depth)) in
     let q =
-        plain-alike (a .reference .now) (a .ref-stride) (a .mv-x) (a .mv-y) (a .w) (a .h) (a .depth) (plain (c .before .before)) (c .before .start .result)
-        (stands (c .before))
+    plain-alike (a .reference .now) (a .ref-stride) (a .mv-x) (a .mv-y) (a .w) (a .h) (a .depth) (plain (c .before .before)) (c .before .start .result)
+    (stands (c .before))
     in
     c .of-blocks .ensures ∙ rest-alike p q _ _ (ap (λ (n : ℕ). n / 2 ^ (a .depth - 8)) (sad-alike p q))
 
