@@ -1,5 +1,8 @@
--- Theorems about document 01's definitions: its numbers, the readings of the answers, the order of the tests.
+-- Theorems about document 01's definitions: its numbers, the readings of the answers, the order of the tests, jobs in any order.
 pub mod Numbers
 pub mod Readings
 pub mod Tests
 pub mod Lowest
+pub mod Jobs
+pub mod AnyOrder
+pub mod SubBlocks

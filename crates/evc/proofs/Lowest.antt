@@ -1,28 +1,24 @@
 -- The first broken test of each call has the lowest number that applies: its tests stand in ascending order of their numbers, which is
--- computed, and of such a list it is proved once. A sub-block goes component by component: `sub-by-component`. Assumes nothing.
-use Prim.Native.Nat.{ℕ, zero, suc, _≤_, _^_}
-use native.Mathlib.Omega.{arith}
+-- computed, and of such a list it is proved once. A sub-block names the first component that
+-- has a broken test, with the lowest number of that component (SubBlocks.antt). Assumes nothing.
+use Prim.Native.Nat.{ℕ, _≤_, _^_}
 use native.Mathlib.Nat.{le-antisymm, le-trans, le-refl}
 use mathlib.Core.Path.{_≡_, refl, sym, ap, subst, _∙_}
-use mathlib.Core.Logic.{_⊎_, inl, inr}
+use mathlib.Core.Logic.{inl, inr}
 use mathlib.Core.Bool.{Bool, true, false, cond, _&&_, true≢false}
-use mathlib.Core.List.{List, [], _∷_, _++_, append-nil, List·Memᴰ, List·Memᴰ·head, List·Memᴰ·tail, List·Memᴰ·not-nil}
+use mathlib.Core.List.{List, [], _∷_, List·Memᴰ·head, List·Memᴰ·tail, List·Memᴰ·not-nil}
 use lib.Dec.{T, leb, leb→le}
 use mir.Facts.{and-yes}
 use borrow.Author.Tests.{le-leb}
 use Rattle.evc.specs.declared.Job.{Job}
-use Rattle.evc.specs.declared.Refusal.{Refusal}
-use Rattle.evc.specs.declared.Refusal.the-variants.{Size, Qp, Shift, Depth, Area, Overlap, Sample}
 use Rattle.evc.specs.declared.Part.{Part}
 use Rattle.evc.specs.declared.SubBlock.{SubBlock}
-use Rattle.evc.specs.declared.Component.{Component}
-use Rattle.evc.specs.declared.Component.the-variants.{Y, U, «V»}
-use Rattle.evc.specs.Answers.{number, replyNumber, SubReply, accepted, refusedAt}
+use Rattle.evc.specs.Answers.{number, replyNumber}
 use Rattle.evc.specs.Tests.{Test, first, Applies, Lowest, logSizes}
 use Rattle.evc.specs.Dequantizer.{scaleTests, scaleReply, dquantTests, dquantNumber}
 use Rattle.evc.specs.Stages.{stageOneTests, stageOneNumber, stageTwoTests, stageTwoNumber}
 use Rattle.evc.specs.Jobs.{jobTests, jobNumber}
-use Rattle.evc.specs.SubBlocks.{Named, named, given, firstNamed, lumaTests, chromaTests, luma, chroma, overlap, subTests, subReply}
+use Rattle.evc.specs.SubBlocks.{lumaTests, chromaTests}
 use Rattle.evc.specs.Planes.{Block}
 use Rattle.evc.specs.Calls.{compareTests, sadSizes, satdSizes, sadReply, ssdReply, satdReply, diffTests, diffNumber}
 use Rattle.evc.proofs.Tests.{reply-number}
@@ -121,45 +117,3 @@ luma-lowest n s c = lowest (lumaTests n s c) tt
 
 pub chroma-lowest : (n : ℕ) (s : SubBlock) (c : Part) → Lowest (chromaTests n s c) (first (chromaTests n s c))
 chroma-lowest n s c = lowest (chromaTests n s c) tt
-
--- ---- a sub-block's answer goes component by component: the first of Y, U, V that is flagged and has a broken test, with the lowest
--- number of its own; where none has, the first flagged pair of YU, YV, UV that shares a sample, naming the later
-abbrev pub orElse : Bool → Component → ℕ → SubReply → SubReply
-orElse false c n rest = rest
-orElse true c zero rest = rest
-orElse true c (suc n) rest = refusedAt c (suc n)
-
-named-first : (on : Bool) (c : Component) (ts : List Test) (rest : List Named)
-    → firstNamed (given on (named c ts) ++ rest) ≡ orElse on c (first ts) (firstNamed rest)
-named-first false c ts rest = refl
-named-first true c [] rest = refl
-named-first true c (t ∷ ts) rest = go (t .broken) (named-first true c ts rest)
-  where
-    some : (r : Refusal) → refusedAt c (number r) ≡ orElse true c (number r) (firstNamed rest)
-    some Size = refl
-    some Qp = refl
-    some Shift = refl
-    some Depth = refl
-    some Area = refl
-    some Overlap = refl
-    some Sample = refl
-
-    go : (b : Bool) → firstNamed (named c ts ++ rest) ≡ orElse true c (first ts) (firstNamed rest)
-        → cond b (refusedAt c (number (t .refusal))) (firstNamed (named c ts ++ rest)) ≡ orElse true c (cond b (number (t .refusal)) (first ts)) (firstNamed rest)
-    go true ih = some (t .refusal)
-    go false ih = ih
-
-named-last : (on : Bool) (c : Component) (ts : List Test) → firstNamed (given on (named c ts)) ≡ orElse on c (first ts) accepted
-named-last on c ts = ap firstNamed (sym (append-nil (given on (named c ts)))) ∙ named-first on c ts []
-
-pub sub-by-component : (n : ℕ) (s : SubBlock)
-    → subReply n s
-    ≡ orElse (s .y .flag) Y (first (lumaTests n s (s .y)))
-    (orElse (s .u .flag) U (first (chromaTests n s (s .u)))
-    (orElse (s .v .flag) «V» (first (chromaTests n s (s .v)))
-    (orElse (s .y .flag && s .u .flag) U (first (overlap (luma s (s .y)) (chroma s (s .u)) ∷ []))
-    (orElse (s .y .flag && s .v .flag) «V» (first (overlap (luma s (s .y)) (chroma s (s .v)) ∷ []))
-    (orElse (s .u .flag && s .v .flag) «V» (first (overlap (chroma s (s .u)) (chroma s (s .v)) ∷ [])) accepted)))))
-unfolding subReply
-sub-by-component n s =
-    rw (named-first (s .y .flag) Y (lumaTests n s (s .y)), named-first (s .u .flag) U (chromaTests n s (s .u)), named-first (s .v .flag) «V» (chromaTests n s (s .v)), named-first (s .y .flag && s .u .flag) U (overlap (luma s (s .y)) (chroma s (s .u)) ∷ []), named-first (s .y .flag && s .v .flag) «V» (overlap (luma s (s .y)) (chroma s (s .v)) ∷ []), named-last (s .u .flag && s .v .flag) «V» (overlap (chroma s (s .u)) (chroma s (s .v)) ∷ []))

@@ -1,14 +1,13 @@
 -- Bounds on absolute values, the cheap way to show that a signed sum or product fits: `Within n z` is |z| ≤ n. Numerals compute, so
 -- `sfits-within (within-add (within-mul hv hs) ho) tt` shows that v · s + o fits.
 -- First the absolute value of a sum and of a product, then `Within` by operations, then from and to the widths. Assumes nothing.
-use mathlib.Core.Path.{_≡_, refl, sym, ap, _∙_, subst}
-use mathlib.Core.Bool.{Bool, true, false, cond}
-use Prim.Native.Nat.{ℕ, zero, suc, _+_, _*_, _-_, _≤_, _<_, _^_}
+use mathlib.Core.Path.{_≡_, refl, ap, _∙_}
+use Prim.Native.Nat.{ℕ, zero, suc, _+_, _*_, _≤_, _^_}
 use native.Mathlib.Omega.{arith}
 use native.Mathlib.Nat.{le-trans, mul-le-mul, div-le-self}
-use lib.Dec.{T, leb, ltb, leb→le, ltb→lt}
-use lib.IntN.{ℤ, pos, negsuc, _+ℤ_, _-ℤ_, _*ℤ_, negℤ, natAbs, subℕ, +ℤ-idl}
-use lib.Signed.{_≤ℤ_, _<ℤ_, mag, shrZ, mag-shr, natAbs-le, ltZ}
+use lib.Dec.{T, ltb, ltb→lt}
+use lib.IntN.{ℤ, pos, negsuc, _+ℤ_, _-ℤ_, _*ℤ_, negℤ, natAbs}
+use lib.Signed.{mag, shrZ, mag-shr, natAbs-le}
 use mir.Syntax.{Width}
 use mir.Val.{SFits, hbits}
 use Rattle.integers.proofs.Dif.{dif, up, dn, of, of-pos, dif-part, dif-eq, difs, dif-add}
@@ -38,10 +37,6 @@ abs-mul (pos a) (pos b) = refl
 abs-mul (pos a) (negsuc b) = abs-neg (pos (a * suc b))
 abs-mul (negsuc a) (pos b) = abs-neg (pos (suc a * b))
 abs-mul (negsuc a) (negsuc b) = refl
-
--- an absolute value by the sign, as code writes it
-pub abs-minus : (x : ℤ) → natAbs (pos 0 -ℤ x) ≡ natAbs x
-abs-minus x = ap natAbs (+ℤ-idl (negℤ x)) ∙ abs-neg x
 
 pub within-add : {m n : ℕ} {x y : ℤ} → Within m x → Within n y → Within (m + n) (x +ℤ y)
 within-add {m} {n} {x} {y} h k = record { bound = omega (arith, abs-add x y, h .bound, k .bound) }

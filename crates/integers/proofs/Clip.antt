@@ -1,11 +1,11 @@
 -- Laws of `minZ`, `maxZ` and `clip`: by what their tests say, as code leaves them; by facts of order; the range; a clip as a minimum of a
 -- maximum, as fast code clips; and that a clip to a type's range changes nothing where the number fits. Assumes nothing.
 use mathlib.Core.Path.{_≡_, refl, sym, ap, _∙_}
-use mathlib.Core.Bool.{Bool, true, false, cond}
+use mathlib.Core.Bool.{Bool, true, false}
 use native.Mathlib.Omega.{arith}
 use lib.Dec.{T}
-use lib.IntN.{ℤ, pos, negsuc, negℤ}
-use lib.Signed.{_≤ℤ_, _<ℤ_, ltZ, ltZ-yes, leZ-yes, ≤ℤ-refl, clashℤ}
+use lib.IntN.{ℤ, pos, negsuc}
+use lib.Signed.{_≤ℤ_, ltZ, ltZ-yes, leZ-yes, ≤ℤ-refl, clashℤ}
 use mir.Syntax.{Width, w16, w32}
 use mir.Val.{SFits}
 use mir.Facts.{sfits-lit}
@@ -43,13 +43,13 @@ module _ (a b : ℤ) where
       go false e = rw e (≤ℤ-antisym h (lt-failed a b e))
 
 module _ (lo hi x : ℤ) where
-  pub clip-lo : ltZ x lo ≡ true → lo ≡ clip lo hi x
+  clip-lo : ltZ x lo ≡ true → lo ≡ clip lo hi x
   clip-lo e = rw e
 
-  pub clip-hi : ltZ x lo ≡ false → ltZ hi x ≡ true → hi ≡ clip lo hi x
+  clip-hi : ltZ x lo ≡ false → ltZ hi x ≡ true → hi ≡ clip lo hi x
   clip-hi e f = rw (e, f)
 
-  pub clip-in : ltZ x lo ≡ false → ltZ hi x ≡ false → x ≡ clip lo hi x
+  clip-in : ltZ x lo ≡ false → ltZ hi x ≡ false → x ≡ clip lo hi x
   clip-in e f = rw (e, f)
 
   -- what lies between the ends is not changed

@@ -1,14 +1,13 @@
 -- ℤ as differences of ℕ: `dif a b` is a − b, and every z is `dif (up z) (dn z)`. The bridge by which `omega` proves identities of ℤ:
 --     rw (of a, of b) (simp difs (dif-eq _ _ _ _ (omega arith)))
 -- First a difference by cases, then when two are equal, then what each operation makes of them, and the ruleset `difs`. Assumes nothing.
-use mathlib.Core.Path.{_≡_, refl, sym, ap, _∙_, subst}
+use mathlib.Core.Path.{_≡_, refl, sym, ap, _∙_}
 use mathlib.Core.Bool.{Bool, true, false, cond}
-use Prim.Native.Nat.{ℕ, zero, suc, _+_, _*_, _-_, _≤_, _<_, _^_}
+use Prim.Native.Nat.{ℕ, zero, suc, _+_, _*_, _-_, _≤_, _<_}
 use native.Mathlib.Omega.{arith}
-use lib.Dec.{T, ltb}
+use lib.Dec.{ltb}
 use borrow.Author.Tests.{lt-ltb, le-ltb, ltb-true, ltb-false}
-use lib.IntN.{ℤ, pos, negsuc, _+ℤ_, _-ℤ_, _*ℤ_, negℤ, subℕ, natAbs}
-use lib.Signed.{_≤ℤ_, _<ℤ_, mag, leZ, ltZ}
+use lib.IntN.{ℤ, pos, negsuc, _+ℤ_, _-ℤ_, _*ℤ_, negℤ, subℕ}
 
 -- the positive and the negative part: z = up z − dn z
 abbrev pub up : ℤ → ℕ

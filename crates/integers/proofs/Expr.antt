@@ -9,7 +9,7 @@ use mathlib.Core.Path.{_≡_, refl, sym, ap, ap₂, _∙_, subst}
 use mathlib.Core.Bool.{Bool, true}
 use mathlib.Core.List.{List, [], _∷_, map}
 use Prim.Native.Nat.{ℕ, _+_, _*_, _≤_, _^_}
-use native.Mathlib.Nat.{lt-of-le-of-lt, le-refl}
+use native.Mathlib.Nat.{lt-of-le-of-lt}
 use lib.Dec.{T, ltb, ltb→lt}
 use lib.IntN.{ℤ, pos, negℤ, _+ℤ_, _-ℤ_, _*ℤ_, natAbs}
 use lib.ListN.{getD}
@@ -81,15 +81,15 @@ stored w (neg a) = loc w (neg (stored w a))
 stored w (shr a k) = loc w (shr (stored w a) k)
 stored w (loc v a) = loc v (stored w a)
 
-abbrev pub last : Ex → Ex
-last (loc w a) = a
-last (var i) = var i
-last (lit z) = lit z
-last (add a b) = add a b
-last (sub a b) = sub a b
-last (mul a b) = mul a b
-last (neg a) = neg a
-last (shr a k) = shr a k
+abbrev pub bare : Ex → Ex
+bare (loc w a) = a
+bare (var i) = var i
+bare (lit z) = lit z
+bare (add a b) = add a b
+bare (sub a b) = sub a b
+bare (mul a b) = mul a b
+bare (neg a) = neg a
+bare (shr a k) = shr a k
 
 -- ---- what is known of a variable: as a goal states it, the number that it is, and a bound on that number's absolute value
 pub record Known : Type 0 where

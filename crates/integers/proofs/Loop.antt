@@ -10,7 +10,7 @@ use native.Mathlib.Omega.{arith}
 use lib.ListN.{length, getD, set, length-set}
 use lib.Seq.{getD-set-same, getD-set-other}
 use Rattle.integers.specs.Lists.{tab}
-use Rattle.integers.specs.Sum.{Addition, ofN+, sum, sumN}
+use Rattle.integers.specs.Sum.{Addition, ofN+, sum}
 use Rattle.integers.proofs.Sum.{sum-none, sum-step, sum-le}
 use Rattle.integers.proofs.Written.{is-tab}
 

@@ -1,17 +1,15 @@
 -- The order of ℤ (lib.Signed's `_≤ℤ_`, `_<ℤ_`) as an order of ℕ: x ≤ y exactly when up x + dn y ≤ up y + dn x. With the ruleset `signed`
 -- `omega` reads facts of order, and `nat-≤ (omega signed)` proves one; with sums, `rw (of a, of b) (simp difs (dif-≤ _ _ _ _ (omega signed)))`.
 -- First the two directions, then what fits a signed width as two bounds, then the laws of the order. Assumes nothing.
-use mathlib.Core.Path.{_≡_, refl, sym, ap, _∙_, subst}
-use mathlib.Core.Bool.{Bool, true, false, not}
-use Prim.Native.Nat.{ℕ, zero, suc, _+_, _*_, _≤_, _<_, _^_}
+use mathlib.Core.Path.{_≡_, sym, _∙_}
+use Prim.Native.Nat.{ℕ, _+_, _≤_, _<_, _^_}
 use native.Mathlib.Omega.{arith}
-use native.Mathlib.Nat.{lt-of-le-of-lt}
 use lib.Dec.{T, leb→le, le→leb, ltb→lt, lt→ltb}
-use lib.IntN.{ℤ, pos, negsuc, _+ℤ_, _-ℤ_, _*ℤ_, negℤ, natAbs}
+use lib.IntN.{ℤ, pos, negsuc, natAbs}
 use lib.Signed.{_≤ℤ_, _<ℤ_, mag, leZ, ltZ}
 use mir.Syntax.{Width}
 use mir.Val.{SFits, hbits}
-use Rattle.integers.proofs.Dif.{dif, up, dn, of, dif-eq, dif-part, difs}
+use Rattle.integers.proofs.Dif.{dif, up, dn, of, dif-eq, dif-part}
 
 le→ : (x y : ℤ) → T (leZ x y) → up x + dn y ≤ up y + dn x
 le→ (pos a) (pos b) t = let h = leb→le a b t in omega arith
@@ -94,26 +92,11 @@ pub ruleset signed = (arith, ≤-nat, <-nat)
 pub ≤ℤ-trans : {x y z : ℤ} → x ≤ℤ y → y ≤ℤ z → x ≤ℤ z
 ≤ℤ-trans h k = nat-≤ (omega signed)
 
-pub <ℤ-trans : {x y z : ℤ} → x <ℤ y → y <ℤ z → x <ℤ z
-<ℤ-trans h k = nat-< (omega signed)
-
-pub ≤ℤ-<ℤ-trans : {x y z : ℤ} → x ≤ℤ y → y <ℤ z → x <ℤ z
-≤ℤ-<ℤ-trans h k = nat-< (omega signed)
-
 pub <ℤ-≤ℤ : {x y : ℤ} → x <ℤ y → x ≤ℤ y
 <ℤ-≤ℤ h = nat-≤ (omega signed)
 
 pub ≤ℤ-antisym : {x y : ℤ} → x ≤ℤ y → y ≤ℤ x → x ≡ y
 ≤ℤ-antisym {x} {y} h k = of x ∙ dif-eq (up x) (dn x) (up y) (dn y) (omega signed) ∙ sym (of y)
-
-pub +ℤ-mono : (a b c d : ℤ) → a ≤ℤ b → c ≤ℤ d → (a +ℤ c) ≤ℤ (b +ℤ d)
-+ℤ-mono a b c d h k =
-    let p = ≤-nat h in
-    let q = ≤-nat k in
-    rw (of a, of b, of c, of d) (simp difs (dif-≤ _ _ _ _ (omega arith)))
-
-pub neg-mono : (a b : ℤ) → a ≤ℤ b → (negℤ b) ≤ℤ (negℤ a)
-neg-mono a b h = let p = ≤-nat h in rw (of a, of b) (simp difs (dif-≤ _ _ _ _ (omega arith)))
 
 -- between two numbers that fit, a number fits
 pub between-sfits : (w : Width) (lo hi x : ℤ) → SFits w lo → SFits w hi → lo ≤ℤ x → x ≤ℤ hi → SFits w x

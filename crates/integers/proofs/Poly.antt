@@ -8,7 +8,7 @@ use mathlib.Core.List.{List, [], _∷_, map}
 use Prim.Native.Nat.{ℕ, zero, suc}
 use lib.Dec.{T, eqb, eqb→eq, ltb}
 use lib.ListN.{length}
-use lib.IntN.{ℤ, pos, negℤ, _+ℤ_, _-ℤ_, _*ℤ_, +ℤ-idl, +ℤ-idr, +ℤ-assoc, +ℤ-comm, -ℤ-+ℤ-cancel, zero-*ℤ, *ℤ-zero, *ℤ-comm, negℤ-+ℤ}
+use lib.IntN.{ℤ, pos, negℤ, _+ℤ_, _*ℤ_, +ℤ-idl, +ℤ-idr, +ℤ-assoc, +ℤ-comm, -ℤ-+ℤ-cancel, zero-*ℤ, *ℤ-zero, *ℤ-comm, negℤ-+ℤ}
 use Rattle.integers.specs.Lists.{tab}
 use Rattle.integers.specs.Sum.{sum, sumZ}
 use Rattle.integers.proofs.Ring.{*ℤ-distr, *ℤ-distl, neg-*ℤ, *ℤ-assoc, one-*ℤ}
@@ -17,19 +17,19 @@ use Rattle.integers.proofs.Expr.{Ex, var, lit, add, sub, mul, neg, shr,
 
 -- ---- monomials: the variables, with repeats, in order
 
-abbrev pub mono : (ℕ → ℤ) → List ℕ → ℤ
+abbrev mono : (ℕ → ℤ) → List ℕ → ℤ
 mono x [] = pos 1
 mono x (i ∷ m) = x i *ℤ mono x m
 
-abbrev pub pick : Bool → List ℕ → List ℕ → List ℕ
+abbrev pick : Bool → List ℕ → List ℕ → List ℕ
 pick true a b = a
 pick false a b = b
 
-abbrev pub into : ℕ → List ℕ → List ℕ
+abbrev into : ℕ → List ℕ → List ℕ
 into i [] = i ∷ []
 into i (j ∷ m) = pick (ltb j i) (j ∷ into i m) (i ∷ j ∷ m)
 
-abbrev pub merge : List ℕ → List ℕ → List ℕ
+abbrev merge : List ℕ → List ℕ → List ℕ
 merge [] b = b
 merge (i ∷ a) b = into i (merge a b)
 
@@ -50,7 +50,7 @@ merge-mono : (x : ℕ → ℤ) (a b : List ℕ) → mono x (merge a b) ≡ mono 
 merge-mono x [] b = sym (one-*ℤ (mono x b))
 merge-mono x (i ∷ a) b = into-mono x i (merge a b) ∙ ap (λ (z : ℤ). x i *ℤ z) (merge-mono x a b) ∙ sym (*ℤ-assoc (x i) (mono x a) (mono x b))
 
-abbrev pub eqM : List ℕ → List ℕ → Bool
+abbrev eqM : List ℕ → List ℕ → Bool
 eqM [] [] = true
 eqM [] (j ∷ b) = false
 eqM (i ∷ a) [] = false
@@ -68,16 +68,16 @@ pub data Terms : Type 0 where
   none : Terms
   term : ℤ → List ℕ → Terms → Terms
 
-abbrev pub total : (ℕ → ℤ) → Terms → ℤ
+abbrev total : (ℕ → ℤ) → Terms → ℤ
 total x none = pos 0
 total x (term k m p) = k *ℤ mono x m +ℤ total x p
 
-abbrev pub choose : Bool → Terms → Terms → Terms
+abbrev choose : Bool → Terms → Terms → Terms
 choose true a b = a
 choose false a b = b
 
 -- one term more: into the term with the same variables, if there is one
-abbrev pub put : ℤ → List ℕ → Terms → Terms
+abbrev put : ℤ → List ℕ → Terms → Terms
 put k m none = term k m none
 put k m (term l n p) = choose (eqM m n) (term (k +ℤ l) n p) (term l n (put k m p))
 
@@ -97,7 +97,7 @@ put-total x k m (term l n p) =
     ∙ ap (λ (z : ℤ). z +ℤ total x p) (+ℤ-comm (l *ℤ mono x n) (k *ℤ mono x m))
     ∙ +ℤ-assoc (k *ℤ mono x m) (l *ℤ mono x n) (total x p))
 
-abbrev pub plus : Terms → Terms → Terms
+abbrev plus : Terms → Terms → Terms
 plus p none = p
 plus p (term k m q) = put k m (plus p q)
 
@@ -110,7 +110,7 @@ plus-total x p (term k m q) =
     into-right a b c = sym (+ℤ-assoc a b c) ∙ ap (λ (z : ℤ). z +ℤ c) (+ℤ-comm a b) ∙ +ℤ-assoc b a c
 
 -- q times the number k and the variables m, added to r
-abbrev pub scaled : ℤ → List ℕ → Terms → Terms → Terms
+abbrev scaled : ℤ → List ℕ → Terms → Terms → Terms
 scaled k m none r = r
 scaled k m (term l n q) r = put (k *ℤ l) (merge m n) (scaled k m q r)
 
@@ -126,7 +126,7 @@ scaled-total x k m (term l n q) r =
     four : (a b c d : ℤ) → (a *ℤ b) *ℤ (c *ℤ d) ≡ (a *ℤ c) *ℤ (b *ℤ d)
     four a b c d = *ℤ-assoc a b (c *ℤ d) ∙ ap (λ (z : ℤ). a *ℤ z) (swap b c d) ∙ sym (*ℤ-assoc a c (b *ℤ d))
 
-abbrev pub product : Terms → Terms → Terms
+abbrev product : Terms → Terms → Terms
 product none q = none
 product (term k m p) q = scaled k m q (product p q)
 
@@ -136,7 +136,7 @@ product-total x (term k m p) q =
     scaled-total x k m q (product p q) ∙ ap (λ (z : ℤ). (k *ℤ mono x m) *ℤ total x q +ℤ z) (product-total x p q)
     ∙ sym (*ℤ-distr (k *ℤ mono x m) (total x p) (total x q))
 
-abbrev pub minus : Terms → Terms
+abbrev minus : Terms → Terms
 minus none = none
 minus (term k m p) = term (negℤ k) m (minus p)
 
@@ -146,7 +146,7 @@ minus-total x (term k m p) =
     ap₂ _+ℤ_ (neg-*ℤ k (mono x m)) (minus-total x p) ∙ sym (negℤ-+ℤ (k *ℤ mono x m) (total x p))
 
 -- ---- expressions
-abbrev pub nf : Ex → Terms
+abbrev nf : Ex → Terms
 nf (var i) = term (pos 1) (i ∷ []) none
 nf (lit z) = term z [] none
 nf (add a b) = plus (nf a) (nf b)
@@ -157,7 +157,7 @@ nf (shr a k) = none
 nf (loc w a) = nf a
 
 -- no shift in it
-abbrev pub smooth : Ex → Bool
+abbrev smooth : Ex → Bool
 smooth (var i) = true
 smooth (lit z) = true
 smooth (add a b) = both (smooth a) (smooth b)
@@ -187,7 +187,7 @@ val-nf x (neg a) t = ap negℤ (val-nf x a t) ∙ sym (minus-total x (nf a))
 val-nf x (shr a k) t = absurd t
 val-nf x (loc w a) t = val-nf x a t
 
-abbrev pub gone : Terms → Bool
+abbrev gone : Terms → Bool
 gone none = true
 gone (term k m p) = both (eqZ k (pos 0)) (gone p)
 

@@ -5,7 +5,7 @@ use Prim.Native.Nat.{ℕ, zero, suc, _+_, _*_, _≤_, _<_}
 use native.Mathlib.Omega.{arith}
 use native.Mathlib.Nat.{add-zero, add-suc}
 use lib.IntN.{ℤ, pos, _+ℤ_, _*ℤ_, negℤ, *ℤ-zero, zero-*ℤ, negℤ-+ℤ, pos-+ℤ-pos}
-use Rattle.integers.specs.Sum.{Addition, ofZ+, ofN+, sum, sumZ, sumN}
+use Rattle.integers.specs.Sum.{Addition, sum, sumZ, sumN}
 use Rattle.integers.proofs.Ring.{*ℤ-distl, *ℤ-distr}
 use Rattle.integers.proofs.Bound.{Within, within-add, within-mono}
 

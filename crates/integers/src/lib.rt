@@ -37,5 +37,6 @@ pub fn abs_i32(x: i32) -> u32
     ensures { λ r. ⌜ r ≡ natAbs x ⌝ }
 {
     let y = x as i64;
-    max_i64(y, 0 - y) as u32
+    let minus = 0 - y;
+    max_i64(y, minus) as u32
 }

@@ -1,29 +1,31 @@
 -- Jobs of several theatres. Where no two accepted jobs of different theatres share a sample, any rearrangement that keeps each theatre's own order
--- leaves the same buffer, and each job answers as it does alone. With each job under a theatre of its own that is the statement for any order.
+-- leaves the same buffer, each job answers as it does alone, and each theatre's samples end as if it had been the only one.
+-- With each job under a theatre of its own that is the statement for any order.
 -- The way: on the samples of one theatre, all the jobs do what that theatre's jobs do alone; samples of no theatre are unchanged.
 use Prim.Native.Nat.{ℕ}
 use mathlib.Core.Path.{_≡_, refl, sym, ap, subst, _∙_}
 use mathlib.Core.HLevel.{Discrete, Π-prop, ⊥-prop}
 use mathlib.Core.Logic.{⊎-elim, ∥∥₁-elim, ite}
 use mathlib.Core.Bool.{Bool-set, true, false}
-use mathlib.Core.List.{List, [], _∷_, map, List·Mem, List·Memᴰ, List·Memᴰ·head, List·Memᴰ·tail, List·isSet, mem-filter, Perm, List·Permᴰ, List·Permᴰ·nil, List·Permᴰ·cons, List·Permᴰ·swap, List·Permᴰ·trans, Permᴰ·pairwise, Pairwise·cons, Pairwise·imp, Pairwise·forall-of-forall-of-flip}
+use mathlib.Core.List.{List, [], _∷_, map, List·Mem, List·Memᴰ, List·Memᴰ·head, List·Memᴰ·tail, List·isSet, mem-filter, Perm, List·Permᴰ, List·Permᴰ·nil, List·Permᴰ·cons, List·Permᴰ·swap, List·Permᴰ·trans, Permᴰ·pairwise, Pairwise, Pairwise·cons, Pairwise·imp, Pairwise·forall-of-forall-of-flip}
 use lib.ListN.{length, getD}
 use lib.Seq.{ext-getD}
-use Rattle.order.specs.Jobs.{Kind, Lawful, after, jobs, answers, owns, Apart, Separate}
+use Rattle.order.specs.Jobs.{Kind, Lawful, after, jobs, answers, samples, owns, Apart, Separate, Ended}
 use Rattle.order.specs.Theatres.{only, SameByTheatre, SeparateTheatres, OwnTheatres}
 use Rattle.order.proofs.Tests.{never-true}
-use Rattle.order.proofs.OneJob.{length-after, elsewhere-unchanged, after-agree, apart-prop, apart-sym}
+use Rattle.order.proofs.Positions.{gather-agree}
+use Rattle.order.proofs.OneJob.{accepted-owns, length-after, elsewhere-unchanged, after-agree, apart-prop, apart-sym}
 use Rattle.order.proofs.Steps.{owner, length-jobs, jobs-outside}
-use Rattle.order.proofs.AnyOrder.{answers-alone}
+use Rattle.order.proofs.AnyOrder.{AnyOrder, answers-alone, separate-ended}
 
 module _ {A Θ J : Type 0} {w : Kind A J} (l : Lawful w) (dec : Discrete Θ) (th : J → Θ) where
-  -- the same by theatre, so the same members
-  same-members : (js ks : List J) → SameByTheatre dec th js ks → (k : J) → List·Mem k ks → List·Mem k js
-  same-members js ks same k m =
-      mem-filter (λ j. dec (th j) (th k)) .0 (subst (List·Mem k) (sym (same (th k))) (mem-filter (λ j. dec (th j) (th k)) .1 (m, refl))) .0
+  -- a job is in a list where it is among its theatre's jobs of the list
+  same-member : (js ks : List J) (k : J) → only dec th (th k) js ≡ only dec th (th k) ks → List·Mem k ks → List·Mem k js
+  same-member js ks k e m =
+      mem-filter (λ j. dec (th j) (th k)) .0 (subst (List·Mem k) (sym e) (mem-filter (λ j. dec (th j) (th k)) .1 (m, refl))) .0
 
   -- any two members of different theatres are apart
-  members-apart : (n : ℕ) (js : List J) → SeparateTheatres w n th js
+  members-apart : (n : ℕ) (js : List J) → Pairwise (λ j k. (th j ≡ th k → ⊥) → Apart (owns w n) j k) js
       → (j : J) → List·Mem j js → (k : J) → List·Mem k js → (th j ≡ th k → ⊥) → Apart (owns w n) j k
   members-apart n js s =
       Pairwise·forall-of-forall-of-flip (λ j k. Π-prop (λ ne. apart-prop w n j k)) (λ j m ne. absurd (ne refl)) s
@@ -49,13 +51,29 @@ module _ {A Θ J : Type 0} {w : Kind A J} (l : Lawful w) (dec : Discrete Θ) (th
       go (no q) rest =
           rest c f (λ r v. elsewhere-unchanged w b j r (rw e (ho j (List·Memᴰ·head refl) q r v)) ∙ h r v)
 
+  -- jobs of a list leave on the samples of a theatre what that theatre's jobs among them leave alone
+  alone : (b : List A) (js : List J) → SeparateTheatres w (length b) th js → (ks : List J) → ((k : J) → List·Mem k ks → List·Mem k js)
+      → (j : J) → List·Mem j js → (p : ℕ) → owns w (length b) j p ≡ true → getD (jobs w ks b) p (w .blank) ≡ getD (jobs w (only dec th (th j) ks) b) p (w .blank)
+  alone b js sep ks sub j m p o =
+      jobs-only (length b) (th j) (λ p. (k : J) × List·Mem k js × (th k ≡ th j) × (owns w (length b) k p ≡ true)) ks
+      (λ k m q p o. (k, sub k ∣ m ∣₁, q, o))
+      (λ k m ne p v. never-true _ (λ o. members-apart (length b) js sep k (sub k ∣ m ∣₁) (v .0) (v .1) (λ q. ne (q ∙ v .2)) p o (v .3)))
+      b b refl refl (λ p _. refl) p (j, m, refl, o)
+
+  -- each accepted job's samples end as if its theatre's jobs had been the only ones
+  pub theatre-alone : (b : List A) (js : List J) → SeparateTheatres w (length b) th js → (j : J) → List·Mem j js → w .number (length b) j ≡ 0
+      → samples w j (jobs w js b) ≡ samples w j (jobs w (only dec th (th j) js) b)
+  theatre-alone b js sep j m z =
+      gather-agree (w .blank) (jobs w js b) (jobs w (only dec th (th j) js) b) (w .area j)
+      (λ p h. alone b js sep js (λ k m. m) j m p (accepted-owns w (length b) j p z h))
+
   -- a rearrangement that keeps each theatre's own order leaves the same buffer, and each job answers as it does alone
   pub by-theatre : (b : List A) (js ks : List J) → SameByTheatre dec th js ks → SeparateTheatres w (length b) th js
       → (jobs w ks b ≡ jobs w js b) × (answers w ks b ≡ map (w .number (length b)) ks)
   by-theatre b js ks same sep = (
     ext-getD (w .blank) (jobs w ks b) (jobs w js b) (length-jobs w n ks b refl ∙ sym (length-jobs w n js b refl)) (λ p _.
         ⊎-elim
-        (λ o. owned (th (o .0)) p (o .0, ∣ o .1 ∣₁, refl, o .2))
+        (λ o. owned (o .0) ∣ o .1 ∣₁ p (o .2))
         (λ h. jobs-outside w n ks b refl p (λ k m. ∥∥₁-elim (from k ∣ m ∣₁) (Bool-set _ _) (h k)) ∙ sym (jobs-outside w n js b refl p h))
         (owner (owns w n) js p)),
     answers-alone w b ks,
@@ -65,23 +83,13 @@ module _ {A Θ J : Type 0} {w : Kind A J} (l : Lawful w) (dec : Discrete Θ) (th
       n = length b
 
       from : (k : J) → List·Mem k ks → List·Mem k js
-      from = same-members js ks same
+      from k = same-member js ks k (same (th k))
 
-      -- the samples of theatre t
-      Own : Θ → ℕ → Type 0
-      Own t p = (j : J) × List·Mem j js × (th j ≡ t) × (owns w n j p ≡ true)
-
-      -- jobs from js leave there what those of theatre t leave alone
-      alone : (x : List J) → ((k : J) → List·Mem k x → List·Mem k js) → (t : Θ) (p : ℕ) → Own t p
-          → getD (jobs w x b) p (w .blank) ≡ getD (jobs w (only dec th t x) b) p (w .blank)
-      alone x sub t =
-          jobs-only n t (Own t) x
-          (λ j m q p o. (j, sub j ∣ m ∣₁, q, o))
-          (λ j m ne p v. never-true _ (λ o. members-apart n js sep j (sub j ∣ m ∣₁) (v .0) (v .1) (λ q. ne (q ∙ v .2)) p o (v .3)))
-          b b refl refl (λ p _. refl)
-
-      owned : (t : Θ) (p : ℕ) → Own t p → getD (jobs w ks b) p (w .blank) ≡ getD (jobs w js b) p (w .blank)
-      owned t p v = alone ks from t p v ∙ ap (λ x. getD (jobs w x b) p (w .blank)) (sym (same t)) ∙ sym (alone js (λ k m. m) t p v)
+      owned : (j : J) → List·Mem j js → (p : ℕ) → owns w n j p ≡ true → getD (jobs w ks b) p (w .blank) ≡ getD (jobs w js b) p (w .blank)
+      owned j m p o =
+          alone b js sep ks from j m p o
+          ∙ ap (λ x. getD (jobs w x b) p (w .blank)) (sym (same (th j)))
+          ∙ sym (alone b js sep js (λ k m. m) j m p o)
 
 -- ---- each job under a theatre of its own
 module _ {Θ J : Type 0} (dec : Discrete Θ) (th : J → Θ) where
@@ -119,8 +127,9 @@ separate-theatres w n th js s = Pairwise·imp (λ j k a ne. a) s
 
 -- so the statement for any order follows
 pub any-order-again : {A Θ J : Type 0} {w : Kind A J} → Lawful w → Discrete Θ → (th : J → Θ) (b : List A) (js ks : List J)
-    → OwnTheatres th js → Perm js ks → Separate w (length b) js → (jobs w ks b ≡ jobs w js b) × (answers w ks b ≡ map (w .number (length b)) ks)
-any-order-again {w} l dec th b js ks o s sep = (
-  ∥∥₁-elim s (List·isSet (l .aset) _ _) (λ d. by-theatre l dec th b js ks (own-theatres-sameᴰ dec th d o) (separate-theatres w (length b) th js sep) .0),
-  answers-alone w b ks,
-)
+    → OwnTheatres th js → Perm js ks → Separate w (length b) js → AnyOrder w b js ks
+any-order-again {w} l dec th b js ks own s sep =
+    record { buffer = same; ended = subst (Ended w b js) (sym same) (separate-ended l b js sep); answer = answers-alone w b ks }
+  where
+    same : jobs w ks b ≡ jobs w js b
+    same = ∥∥₁-elim s (List·isSet (l .aset) _ _) (λ d. by-theatre l dec th b js ks (own-theatres-sameᴰ dec th d own) (separate-theatres w (length b) th js sep) .0)

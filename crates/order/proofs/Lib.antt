@@ -1,4 +1,4 @@
--- Laws and theorems of jobs on one buffer. Read OneJob, AnyOrder and ByTheatre; the others lead there, and serve the crates above.
+-- Laws and theorems of jobs on one buffer. Read OneJob, AnyOrder, ByTheatre, and Examples; the others lead there, and serve the crates above.
 pub mod Tests
 pub mod Positions
 pub mod Rows
@@ -6,3 +6,4 @@ pub mod OneJob
 pub mod Steps
 pub mod AnyOrder
 pub mod ByTheatre
+pub mod Examples

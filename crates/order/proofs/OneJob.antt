@@ -30,7 +30,7 @@ module _ {A J : Type 0} (w : Kind A J) where
   pub length-after : (b : List A) (j : J) → length (after w j b) ≡ length b
   length-after b j =
       by-answer (w .number (length b) j)
-      (λ z. rw z (length-put (w .blank) b (w .area j) (w .block j (samples w j b))))
+      (λ z. rw z (length-put b (w .area j) (w .block j (samples w j b))))
       (λ z. ap length (refused-unchanged b j z))
 
   -- a sample that the job does not own is unchanged
@@ -47,7 +47,7 @@ module _ {A J : Type 0} {w : Kind A J} (l : Lawful w) where
       let f = l .fits (length b) j z in
       rw z (gather-put (w .blank) b (w .area j) (w .block j (samples w j b)) (f .0) (f .1) (l .keep j (samples w j b) ∙ length-gather (w .blank) b (w .area j)))
 
-  -- of two buffers of one length that hold the same in a job's area, both give the same answer and the same work: what lies outside does not matter
+  -- what lies outside a job's area does not matter: on buffers of one length that hold the same in the area, it answers the same and leaves the same there
   pub outside-does-not-matter : (b c : List A) (j : J) → length b ≡ length c → samples w j b ≡ samples w j c
       → (w .number (length b) j ≡ w .number (length c) j) × (samples w j (after w j b) ≡ samples w j (after w j c))
   outside-does-not-matter b c j e h = (

@@ -1,8 +1,8 @@
 -- Laws of positions, any list of them. In groups:
---   has-…, distinct-…, below-…   which positions a list has
---   ascending-…                  lists in ascending order
---   gather-…, put-…              reading the samples at the positions, and writing them
---   shared-…                     what two lists share
+--   has-…, below-…   which positions a list has
+--   ascending-…      lists in ascending order
+--   gather-…, put-…  reading the samples at the positions, and writing them
+--   shared-…         what two lists share
 -- Rows of positions have a file of their own.
 use Prim.Native.Nat.{ℕ, suc, _<_}
 use native.Mathlib.Omega.{arith}
@@ -76,7 +76,8 @@ ascending-same (p ∷ ps) (q ∷ qs) u v h = rw (head, ascending-same ps qs (asc
     head =
         has-cases q qs p (sym (h p) ∙ has-head p ps)
         sym
-        (λ s. has-cases p ps q (h q ∙ has-head q qs) (λ e. e) (λ t. let i = ascending-head q qs v p s in let j = ascending-head p ps u q t in absurd (omega arith)))
+        (λ s. has-cases p ps q (h q ∙ has-head q qs) (λ e. e) (λ t.
+        let i = ascending-head q qs v p s in let j = ascending-head p ps u q t in absurd (omega arith)))
 
     tail : (r : ℕ) → has ps r ≡ has qs r
     tail r =
@@ -85,6 +86,18 @@ ascending-same (p ∷ ps) (q ∷ qs) u v h = rw (head, ascending-same ps qs (asc
         (λ t. has-cases p ps r (h r ∙ has-tail q qs r t) (λ e. let l = ascending-head q qs v r t in absurd (omega (arith, head))) (λ s. s))
 
 -- ---- reading and writing at the positions
+module _ {A : Type 0} where
+  pub put-append : (b : List A) (ps qs : List ℕ) (vs us : List A) → length vs ≡ length ps → put b (ps ++ qs) (vs ++ us) ≡ put (put b ps vs) qs us
+  put-append b [] qs [] us e = refl
+  put-append b [] qs (v ∷ vs) us e = absurd (omega arith)
+  put-append b (p ∷ ps) qs [] us e = absurd (omega arith)
+  put-append b (p ∷ ps) qs (v ∷ vs) us e = put-append (set b p v) ps qs vs us (omega arith)
+
+  pub length-put : (b : List A) (ps : List ℕ) (vs : List A) → length (put b ps vs) ≡ length b
+  length-put b [] vs = refl
+  length-put b (p ∷ ps) [] = refl
+  length-put b (p ∷ ps) (v ∷ vs) = length-put (set b p v) ps vs ∙ length-set b p v
+
 module _ {A : Type 0} (d : A) where
   pub length-gather : (b : List A) (ps : List ℕ) → length (gather d b ps) ≡ length ps
   length-gather b [] = refl
@@ -105,17 +118,6 @@ module _ {A : Type 0} (d : A) where
       has-cases q ps p h
       (λ s. subst (λ (x : ℕ). getD b x d ≡ getD c x d) s (cc))
       (gather-at b c ps (cc) p)
-
-  pub put-append : (b : List A) (ps qs : List ℕ) (vs us : List A) → length vs ≡ length ps → put b (ps ++ qs) (vs ++ us) ≡ put (put b ps vs) qs us
-  put-append b [] qs [] us e = refl
-  put-append b [] qs (v ∷ vs) us e = absurd (omega arith)
-  put-append b (p ∷ ps) qs [] us e = absurd (omega arith)
-  put-append b (p ∷ ps) qs (v ∷ vs) us e = put-append (set b p v) ps qs vs us (omega arith)
-
-  pub length-put : (b : List A) (ps : List ℕ) (vs : List A) → length (put b ps vs) ≡ length b
-  length-put b [] vs = refl
-  length-put b (p ∷ ps) [] = refl
-  length-put b (p ∷ ps) (v ∷ vs) = length-put (set b p v) ps vs ∙ length-set b p v
 
   -- elsewhere nothing changes
   pub put-outside : (b : List A) (ps : List ℕ) (vs : List A) (p : ℕ) → has ps p ≡ false → getD (put b ps vs) p d ≡ getD b p d

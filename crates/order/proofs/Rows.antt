@@ -1,5 +1,5 @@
 -- Laws of positions in rows. In groups:
---   row-…    one run of positions, the part of a buffer that is lent from a
+--   row-…    a run of positions: the part of a buffer that is lent from a
 --   rows-…   rows a pitch apart
 --   …-step   one row more: a turn of a loop over the rows
 use Prim.Native.Nat.{ℕ, zero, suc, _+_, _-_, _*_, _≤_, _<_, min, max}
@@ -72,11 +72,7 @@ shared-row-none a m b k u v = (
   λ h. let z : min (a + m) (b + k) - max a b ≡ 0 = ⊎-elim (λ q. omega arith) (λ q. omega arith) h in shared-row a m b k ∙ rw z,
 )
 
-module _ {A : Type 0} (d : A) where
-  pub gather-row : (b : List A) (a m : ℕ) → a + m ≤ length b → gather d b (row a m) ≡ take m (drop a b)
-  gather-row b a zero h = refl
-  gather-row b a (suc m) h = rw (drop-cons b a d (omega arith), gather-row b (suc a) m (omega arith))
-
+module _ {A : Type 0} where
   put-row-sets : (b : List A) (a m : ℕ) (vs : List A) → length vs ≡ m → put b (row a m) vs ≡ sets b a vs
   put-row-sets b a zero [] l = refl
   put-row-sets b a zero (v ∷ vs) l = absurd (omega arith)
@@ -85,6 +81,11 @@ module _ {A : Type 0} (d : A) where
 
   pub put-row : (b : List A) (a m : ℕ) (vs : List A) → length vs ≡ m → a + m ≤ length b → put b (row a m) vs ≡ take a b ++ (vs ++ drop m (drop a b))
   put-row b a m vs l h = put-row-sets b a m vs l ∙ sets-eq vs b a (omega arith) ∙ rw (l, drop-drop m a b) (append-assoc (take a b) vs (drop (a + m) b))
+
+module _ {A : Type 0} (d : A) where
+  pub gather-row : (b : List A) (a m : ℕ) → a + m ≤ length b → gather d b (row a m) ≡ take m (drop a b)
+  gather-row b a zero h = refl
+  gather-row b a (suc m) h = rw (drop-cons b a d (omega arith), gather-row b (suc a) m (omega arith))
 
   -- the bridge to code: what is left when F has worked on the part that was lent to it
   pub change-row : (F : List A → List A) → ((l : List A) → length (F l) ≡ length l) → (b : List A) (a m : ℕ) → a + m ≤ length b
@@ -148,6 +149,14 @@ rows-snoc a w pitch (suc h) =
     ap (λ l. row a w ++ l) (rows-snoc (a + pitch) w pitch h)
     ∙ rw e (sym (append-assoc (row a w) (rows (a + pitch) w pitch h) (row (a + suc h * pitch) w)))
 
+-- one row more is written, of a list that is read from the front
+pub put-rows-step : {A : Type 0} (b vs us : List A) (a w pitch h : ℕ) → length vs ≡ h * w → length us ≡ w → a + h * pitch + w ≤ length b
+    → put b (rows a w pitch (suc h)) (vs ++ us) ≡ take (a + h * pitch) (put b (rows a w pitch h) vs) ++ (us ++ drop w (drop (a + h * pitch) (put b (rows a w pitch h) vs)))
+put-rows-step b vs us a w pitch h ev eu l =
+    ap (λ ps. put b ps (vs ++ us)) (rows-snoc a w pitch h)
+    ∙ put-append b (rows a w pitch h) (row (a + h * pitch) w) vs us (ev ∙ sym (length-rows a w pitch h))
+    ∙ put-row (put b (rows a w pitch h) vs) (a + h * pitch) w us eu (rw length-put l)
+
 module _ {A : Type 0} (d : A) where
   -- one row more is read, into a list that is filled from the front
   pub gather-rows-step : (b : List A) (a w pitch h : ℕ) → a + h * pitch + w ≤ length b
@@ -156,14 +165,6 @@ module _ {A : Type 0} (d : A) where
       ap (gather d b) (rows-snoc a w pitch h)
       ∙ gather-append d b (rows a w pitch h) (row (a + h * pitch) w)
       ∙ ap (λ r. gather d b (rows a w pitch h) ++ r) (gather-row d b (a + h * pitch) w l)
-
-  -- one row more is written, of a list that is read from the front
-  pub put-rows-step : (b vs us : List A) (a w pitch h : ℕ) → length vs ≡ h * w → length us ≡ w → a + h * pitch + w ≤ length b
-      → put b (rows a w pitch (suc h)) (vs ++ us) ≡ take (a + h * pitch) (put b (rows a w pitch h) vs) ++ (us ++ drop w (drop (a + h * pitch) (put b (rows a w pitch h) vs)))
-  put-rows-step b vs us a w pitch h ev eu l =
-      ap (λ ps. put b ps (vs ++ us)) (rows-snoc a w pitch h)
-      ∙ put-append d b (rows a w pitch h) (row (a + h * pitch) w) vs us (ev ∙ sym (length-rows a w pitch h))
-      ∙ put-row d (put b (rows a w pitch h) vs) (a + h * pitch) w us eu (rw length-put l)
 
 -- one row more shares nothing
 pub shared-rows-step : (ps : List ℕ) (a w pitch h : ℕ)

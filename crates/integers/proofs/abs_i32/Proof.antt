@@ -1,15 +1,13 @@
 -- `integers::abs_i32` meets its contract: the larger of a number and its negation is its absolute value. Assumes nothing.
 use borrow.Author.Needs.{needs}
-use mathlib.Core.Path.{_≡_, sym, ap, ap₂, _∙_, subst}
+use mathlib.Core.Path.{_≡_, ap₂, _∙_}
 use mathlib.Core.List.{[], _∷_}
 use Prim.Native.Nat.{ℕ}
 use native.Mathlib.Omega.{arith}
-use lib.Dec.{T}
 use lib.IntN.{ℤ, pos, negsuc, negℤ, _-ℤ_, natAbs, +ℤ-idl}
-use lib.Signed.{_≤ℤ_, nonNeg, leZ-yes}
+use lib.Signed.{_≤ℤ_, leZ-yes}
 use mir.Syntax.{w32, w64}
-use mir.Val.{Fits}
-use mir.Facts.{toZ-ofZ, fits-natAbs}
+use mir.Facts.{fits-natAbs}
 use Rattle.integers.specs.Z.{maxZ}
 use Rattle.integers.proofs.Dif.{of, difs}
 use Rattle.integers.proofs.Order.{signed, nat-≤, dif-≤}
@@ -41,8 +39,8 @@ minus = sub (lit (pos 0)) y
 cast-y : tie.Need-cast-y
 cast-y c = fit (ρ c) w64 (var 0) tt
 
-sub-max-i64 : tie.Need-sub-max-i64
-sub-max-i64 c = fit (ρ c) w64 minus tt
+sub-minus : tie.Need-sub-minus
+sub-minus c = fit (ρ c) w64 minus tt
 
 max-i64-requires : tie.Need-max-i64-requires
 max-i64-requires c κs = search needs
@@ -58,4 +56,4 @@ returns : tie.Need-returns
 returns c = rw (back w64 (c .max-i64 .result) (c .max-i64 .ok), given c)
 
 pub abs-i32-spec : {M : Type 1} → statement M
-abs-i32-spec = tie.close (tie.spec cast-y sub-max-i64 max-i64-requires cast-result returns)
+abs-i32-spec = tie.close (tie.spec cast-y sub-minus max-i64-requires cast-result returns)

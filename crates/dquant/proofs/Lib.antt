@@ -1,0 +1,2 @@
+-- The laws that callers of the dequantizer cite.
+pub mod Calls
