@@ -7,6 +7,7 @@ mod rows;
 mod sad;
 mod ssd;
 mod tests;
+mod tiles8;
 
 pub use diff::evce_diff_16b;
 pub use sad::evce_sad_16b;
