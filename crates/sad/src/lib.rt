@@ -7,6 +7,8 @@ mod rows;
 mod sad;
 mod ssd;
 mod tests;
+mod tiles2;
+mod tiles4;
 mod tiles8;
 
 pub use diff::evce_diff_16b;
