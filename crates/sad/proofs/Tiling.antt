@@ -2,22 +2,31 @@
 -- definition, and how large it can be. Assumes nothing.
 use mathlib.Core.Path.{_≡_, refl, sym, ap, ap₂, _∙_}
 use mathlib.Core.List.{List, []}
-use Prim.Native.Nat.{ℕ, _+_, _-_, _*_, _/_, _≤_, _<_}
-use native.Mathlib.Nat.{add-mul, mul-le-mul-right, le-trans}
+use Prim.Native.Nat.{ℕ, _+_, _-_, _*_, _/_, _%_, _^_, _≤_, _<_}
+use mathlib.Core.Bool.{Bool, true, false, _||_}
+use native.Mathlib.Nat.{add-mul, mul-le-mul, mul-le-mul-right, le-trans, div-add-mod'}
 use native.Mathlib.Omega.{arith}
+use lib.Dec.{eqb}
 use lib.IntN.{ℤ, pos, natAbs, _-ℤ_, _*ℤ_}
 use lib.ListN.{length, getD}
 use Rattle.integers.specs.Lists.{tab}
 use Rattle.integers.specs.Sum.{ofZ+, ofN+, sumZ, sumN}
 use Rattle.integers.proofs.Sum.{sum-ext, sum-le}
 use Rattle.integers.proofs.Written.{tab-at, tab-ext}
-use Rattle.evc.specs.Tiles.{sign, coefficient, share, rounded, tileSum, tileNumber, tile}
+use Rattle.evc.specs.Tiles.{sign, coefficient, share, rounded, tileSum, tileNumber, tile, tileSide, satdTotal}
+use Rattle.evc.specs.Answers.{refused}
+use Rattle.evc.specs.Tests.{first, reply, outside}
+use Rattle.evc.specs.Planes.{Block}
+use Rattle.evc.specs.Differences.{difference}
+use Rattle.evc.specs.Calls.{compareTests, sampleTests, satdSizes, satdReply}
 use Rattle.hadamard.specs.Passes.{entry}
 use Rattle.hadamard.proofs.Most.{number-most}
 use Rattle.sad.specs.Totals.{TwoBlocks, rowOf, cell}
 use Rattle.sad.specs.Small.{SmallBlocks, Tested, apartFrom}
+use Rattle.sad.specs.Rests.{rest}
 use Rattle.sad.proofs.Laws.{abs-dif-le}
-use Rattle.sad.proofs.Cells.{row-at, in-one, in-two, two-rows, small-rows}
+use Rattle.sad.proofs.Cells.{row-at}
+use Rattle.sad.proofs.Replies.{Alike, dif-alike, at-size, at-depth, at-area, at-second, at-rest}
 
 -- ---- for evc
 -- tiles whose differences agree have one number
@@ -95,6 +104,18 @@ module _ {w h : ℕ} {a : List ℕ} {s t : ℕ} {b : List ℕ} {s′ t′ : ℕ}
       le-trans (sum-le k (n * (n * (n * (n * 16383)))) (λ u. tileNumber n (tile n (apartFrom a s t b s′ t′) v u)) (λ u m. tile-most n v u p (q u m)))
       (mul-le-mul-right (n * (n * (n * (n * 16383)))) r)
 
+  -- nor the total of at most k by k tiles
+  pub satd-most :
+      (n k : ℕ) → ((v : ℕ) → v < h / n → v * n + n ≤ h) → ((u : ℕ) → u < w / n → u * n + n ≤ w) → h / n ≤ k → w / n ≤ k →
+      satdTotal n w h (apartFrom a s t b s′ t′) ≤ k * (k * (n * (n * (n * (n * 16383)))))
+  unfolding satdTotal
+  satd-most n k p q x y =
+      let c = n * (n * (n * (n * 16383))) in
+      le-trans
+      (sum-le (h / n) (w / n * c) (λ v. sumN (w / n) (λ u. tileNumber n (tile n (apartFrom a s t b s′ t′) v u)))
+      (λ v m. sum-le (w / n) c (λ u. tileNumber n (tile n (apartFrom a s t b s′ t′) v u)) (λ u l. tile-most n v u (p v m) (q u l))))
+      (mul-le-mul x (mul-le-mul-right c y))
+
 -- ---- what a tile's differences are
 module _ (n : ℕ) (a : List ℕ) (s t : ℕ) (b : List ℕ) (s′ t′ : ℕ) where
   pub row-differs :
@@ -138,3 +159,51 @@ module _ (n : ℕ) (a : List ℕ) (s t : ℕ) (b : List ℕ) (s′ t′ : ℕ) w
     where
       place : (s t j x : ℕ) → s + v * n * t + (0 * n + j) * t + x ≡ s + (v * n + j) * t + x
       place s t j x = let e = none t j in let d = add-mul (v * n) j t in omega arith
+
+-- ---- blocks that are read alike have one total
+tile-inside : (n h v j : ℕ) → v < h / n → j < n → v * n + j < h
+tile-inside n h v j p q =
+    let e = div-add-mod' h n in
+    let f : (v + 1) * n ≤ h / n * n = mul-le-mul-right n (omega arith) in
+    let g = add-mul v 1 n in
+    omega arith
+
+pub satd-alike : {w h : ℕ} {a a′ b b′ : Block} → Alike w h a a′ → Alike w h b b′ → (n : ℕ) → satdTotal n w h (difference a b) ≡ satdTotal n w h (difference a′ b′)
+unfolding satdTotal
+satd-alike {w} {h} {a} {a′} {b} {b′} p q n =
+    sum-ext ofN+ (h / n) (λ v. sumN (w / n) (λ u. tileNumber n (tile n (difference a b) v u))) (λ v. sumN (w / n) (λ u. tileNumber n (tile n (difference a′ b′) v u)))
+    (λ v m. sum-ext ofN+ (w / n) (λ u. tileNumber n (tile n (difference a b) v u)) (λ u. tileNumber n (tile n (difference a′ b′) v u))
+    (λ u k. number-ext n (tile n (difference a b) v u) (tile n (difference a′ b′) v u)
+    (λ j i r s. dif-alike p q (v * n + j) (u * n + i) (tile-inside n h v j m r) (tile-inside n w u i k s))))
+
+-- ---- how a call of SATD ends
+module _ (w h depth : ℕ) (a b : Block) where
+  abbrev uneven : ℕ → Bool
+  uneven x = outside 2 64 x || eqb (x % 2) 1
+
+  abbrev satdValue : ℕ
+  satdValue = satdTotal (tileSide w h) w h (difference a b) / 2 ^ (depth - 8)
+
+  -- from the number to the answer
+  satd-of : (n : ℕ) → n ≡ first (compareTests (satdSizes w h) w h depth a b) → reply n satdValue ≡ satdReply w h depth a b
+  unfolding satdReply
+  satd-of n e = ap (λ (m : ℕ). reply m satdValue) e
+
+  pub satd-size : uneven w || uneven h ≡ true → refused 1 ≡ satdReply w h depth a b
+  satd-size e = satd-of 1 (at-size (uneven w) (uneven h) depth (a .area) (b .area) (sampleTests w h a b) e)
+
+  module _ (e : uneven w || uneven h ≡ false) where
+    pub satd-depth : outside 8 14 depth ≡ true → refused 4 ≡ satdReply w h depth a b
+    satd-depth f = satd-of 4 (at-depth (uneven w) (uneven h) depth (a .area) (b .area) (sampleTests w h a b) e f)
+
+    module _ (f : outside 8 14 depth ≡ false) where
+      pub satd-area : a .area ≡ true → refused 5 ≡ satdReply w h depth a b
+      satd-area g = satd-of 5 (at-area (uneven w) (uneven h) depth (a .area) (b .area) (sampleTests w h a b) e f g)
+
+      module _ (g : a .area ≡ false) where
+        pub satd-second : b .area ≡ true → refused 5 ≡ satdReply w h depth a b
+        satd-second k = satd-of 5 (at-second (uneven w) (uneven h) depth (a .area) (b .area) (sampleTests w h a b) e f g k)
+
+        pub satd-rest : b .area ≡ false → rest w h a b satdValue ≡ satdReply w h depth a b
+        unfolding rest
+        satd-rest k = satd-of (first (sampleTests w h a b)) (at-rest (uneven w) (uneven h) depth (a .area) (b .area) (sampleTests w h a b) e f g k)
