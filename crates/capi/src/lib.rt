@@ -1,0 +1,4 @@
+// The library for C and Rust: each call of document 01 as an exported function on slices and numbers.
+// A slice passes as a pointer and a length. Every export answers the paper's number, 0 for accepted.
+mod numbers;
+mod transform;
