@@ -1,1 +1,2 @@
--- Proofs of the exports.
+-- Laws that the exports share.
+pub mod Laws

@@ -2,7 +2,15 @@
 ghost use mathlib.Core.Path.{_≡_};
 ghost use lib.ListN.{length};
 ghost use Rattle.evc.specs.Dequantizer.{dquantNumber, dquantExit};
+ghost use Rattle.evc.specs.Stages.{stageOneNumber, stageTwoNumber, itxb0Exit, itxb1Exit};
+ghost use Rattle.evc.specs.Jobs.{jobNumber, jobExit};
+ghost use Rattle.evc.specs.SubBlocks.{subReply, subExit};
+ghost use Rattle.capi.specs.Boundary.{jobOf, partOf, subBlockOf, SubTold};
 use crate::numbers::answer_number;
+use crate::numbers::tell_sub_block;
+use evc::Job;
+use evc::Part;
+use evc::SubBlock;
 
 #[no_mangle]
 pub extern "C" fn tv_dquant(
@@ -17,4 +25,98 @@ pub extern "C" fn tv_dquant(
     ensures exit { λ r. ⌜ now (coef .exit) ≡ dquantExit «log2_w» «log2_h» scale offset shift (now (coef .entry)) ⌝ }
 {
     answer_number(dquant::evc_dquant(coef, log2_w, log2_h, scale, offset, shift))
+}
+
+#[no_mangle]
+pub extern "C" fn tv_itxb0(src: &[i16], dst: &mut [i32], log2_size: usize, log2_line: usize) -> u8
+    ensures number { λ r. ⌜ r ≡ stageOneNumber (length (now (src .entry))) (length (now (dst .entry))) «log2_size» «log2_line» ⌝ }
+    ensures exit { λ r. ⌜ now (dst .exit) ≡ itxb0Exit «log2_size» «log2_line» (now (src .entry)) (now (dst .entry)) ⌝ }
+{
+    answer_number(crate::stub::itxb0(src, dst, log2_size, log2_line))
+}
+
+#[no_mangle]
+pub extern "C" fn tv_itxb1(
+    src: &[i32],
+    dst: &mut [i16],
+    log2_size: usize,
+    log2_line: usize,
+    shift: u8,
+) -> u8
+    ensures number { λ r. ⌜ r ≡ stageTwoNumber (length (now (src .entry))) (length (now (dst .entry))) «log2_size» «log2_line» shift ⌝ }
+    ensures exit { λ r. ⌜ now (dst .exit) ≡ itxb1Exit «log2_size» «log2_line» shift (now (src .entry)) (now (dst .entry)) ⌝ }
+{
+    answer_number(crate::stub::itxb1(src, dst, log2_size, log2_line, shift))
+}
+
+#[no_mangle]
+pub extern "C" fn tv_job(
+    coef: &mut [i16],
+    start: usize,
+    log2_w: usize,
+    log2_h: usize,
+    qp: u8,
+    offset: i32,
+    dq_shift: u8,
+    it_shift: u8,
+) -> u8
+    ensures number { λ r. ⌜ r ≡ jobNumber (length (now (coef .entry))) (jobOf start «log2_w» «log2_h» qp offset «dq_shift» «it_shift») ⌝ }
+    ensures exit { λ r. ⌜ now (coef .exit) ≡ jobExit (jobOf start «log2_w» «log2_h» qp offset «dq_shift» «it_shift») (now (coef .entry)) ⌝ }
+{
+    let job = Job {
+        start: start,
+        logw: log2_w,
+        logh: log2_h,
+        qp: qp,
+        offset: offset,
+        dqshift: dq_shift,
+        itshift: it_shift,
+    };
+    answer_number(crate::stub::evc_itdq_job(coef, job))
+}
+
+// A component as C hands it in.
+fn part(flag: u8, start: usize, qp: u8) -> Part
+    ensures { λ r. ⌜ r ≡ partOf flag start qp ⌝ }
+{
+    Part {
+        flag: flag != 0,
+        start: start,
+        qp: qp,
+    }
+}
+
+#[no_mangle]
+pub extern "C" fn tv_sub_block(
+    coef: &mut [i16],
+    log2_w: usize,
+    log2_h: usize,
+    offset: i32,
+    dq_shift: u8,
+    it_shift: u8,
+    flag_y: u8,
+    flag_u: u8,
+    flag_v: u8,
+    start_y: usize,
+    start_u: usize,
+    start_v: usize,
+    qp_y: u8,
+    qp_u: u8,
+    qp_v: u8,
+    component: &mut u8,
+) -> u8
+    ensures told { λ r. ⌜ SubTold (subReply (length (now (coef .entry))) (subBlockOf «log2_w» «log2_h» offset «dq_shift» «it_shift» (partOf «flag_y» «start_y» «qp_y») (partOf «flag_u» «start_u» «qp_u») (partOf «flag_v» «start_v» «qp_v»))) (now (component .entry)) (now (component .exit)) r ⌝ }
+    ensures exit { λ r. ⌜ now (coef .exit) ≡ subExit (subBlockOf «log2_w» «log2_h» offset «dq_shift» «it_shift» (partOf «flag_y» «start_y» «qp_y») (partOf «flag_u» «start_u» «qp_u») (partOf «flag_v» «start_v» «qp_v»)) (now (coef .entry)) ⌝ }
+{
+    let call = SubBlock {
+        logw: log2_w,
+        logh: log2_h,
+        offset: offset,
+        dqshift: dq_shift,
+        itshift: it_shift,
+        y: part(flag_y, start_y, qp_y),
+        u: part(flag_u, start_u, qp_u),
+        v: part(flag_v, start_v, qp_v),
+    };
+    tell_sub_block(crate::stub::evc_sub_block_itdq2(coef, call), component)
 }

@@ -1,0 +1,11 @@
+use Rattle.capi.proofs.stub.evce_ssd_16b.Statement.{statement}
+use Rattle.capi.proofs.stub.evce_ssd_16b.Tie as tie
+use Rattle.capi.proofs.stub.evce_ssd_16b.Reads as reads
+use Rattle.capi.proofs.stub.evce_ssd_16b.Lts as lts
+
+-- src/stub.rt:59:1
+returns : tie.Need-returns
+returns c = ?
+
+pub evce-ssd-16b-spec : {M : Type 1} → statement M
+evce-ssd-16b-spec = tie.close (tie.spec returns)
