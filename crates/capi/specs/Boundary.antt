@@ -6,6 +6,7 @@ use mathlib.Core.Bool.{Bool, not}
 use mathlib.Core.List.{List}
 use lib.Dec.{eqb}
 use lib.IntN.{ℤ}
+use lib.ListN.{length}
 use Rattle.evc.specs.declared.Component.{Component}
 use Rattle.evc.specs.declared.Component.the-variants.{Y, U, «V»}
 use Rattle.evc.specs.declared.Part.{Part}
@@ -13,6 +14,7 @@ use Rattle.evc.specs.declared.SubBlock.{SubBlock}
 use Rattle.evc.specs.declared.Job.{Job}
 use Rattle.evc.specs.Answers.{Reply, replyNumber, valueOr, SubReply, accepted, refusedAt}
 use Rattle.evc.specs.Planes.{Plane}
+use Rattle.evc.specs.SubBlocks.{subReply, subExit}
 
 -- ---- what is handed in
 abbrev pub planeOf : {A : Type 0} → List A → ℕ → ℕ → ℕ → Plane A
@@ -53,3 +55,8 @@ componentOr (refusedAt c n) d = componentNumber c
 pub record SubTold (reply : SubReply) (before after : ℕ) (n : ℕ) : Type 0 where
   pub number : n ≡ subNumber reply
   pub component : after ≡ componentOr reply before
+
+-- n answers a sub-block call on the buffer coef, which ends as coef'
+pub record SubDone (call : SubBlock) (coef coef' : List ℤ) (before after : ℕ) (n : ℕ) : Type 0 where
+  pub told : SubTold (subReply (length coef) call) before after n
+  pub exit : coef' ≡ subExit call coef

@@ -3,4 +3,5 @@
 mod distortion;
 mod numbers;
 mod stub;
+mod sub_block;
 mod transform;

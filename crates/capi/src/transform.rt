@@ -1,16 +1,12 @@
-// The inverse transform's calls.
+// The dequantizer, the two stages and the block job.
 ghost use mathlib.Core.Path.{_≡_};
 ghost use lib.ListN.{length};
 ghost use Rattle.evc.specs.Dequantizer.{dquantNumber, dquantExit};
 ghost use Rattle.evc.specs.Stages.{stageOneNumber, stageTwoNumber, itxb0Exit, itxb1Exit};
 ghost use Rattle.evc.specs.Jobs.{jobNumber, jobExit};
-ghost use Rattle.evc.specs.SubBlocks.{subReply, subExit};
-ghost use Rattle.capi.specs.Boundary.{jobOf, partOf, subBlockOf, SubTold};
+ghost use Rattle.capi.specs.Boundary.{jobOf};
 use crate::numbers::answer_number;
-use crate::numbers::tell_sub_block;
 use evc::Job;
-use evc::Part;
-use evc::SubBlock;
 
 #[no_mangle]
 pub extern "C" fn tv_dquant(
@@ -73,50 +69,4 @@ pub extern "C" fn tv_job(
         itshift: it_shift,
     };
     answer_number(crate::stub::evc_itdq_job(coef, job))
-}
-
-// A component as C hands it in.
-fn part(flag: u8, start: usize, qp: u8) -> Part
-    ensures { λ r. ⌜ r ≡ partOf flag start qp ⌝ }
-{
-    Part {
-        flag: flag != 0,
-        start: start,
-        qp: qp,
-    }
-}
-
-#[no_mangle]
-pub extern "C" fn tv_sub_block(
-    coef: &mut [i16],
-    log2_w: usize,
-    log2_h: usize,
-    offset: i32,
-    dq_shift: u8,
-    it_shift: u8,
-    flag_y: u8,
-    flag_u: u8,
-    flag_v: u8,
-    start_y: usize,
-    start_u: usize,
-    start_v: usize,
-    qp_y: u8,
-    qp_u: u8,
-    qp_v: u8,
-    component: &mut u8,
-) -> u8
-    ensures told { λ r. ⌜ SubTold (subReply (length (now (coef .entry))) (subBlockOf «log2_w» «log2_h» offset «dq_shift» «it_shift» (partOf «flag_y» «start_y» «qp_y») (partOf «flag_u» «start_u» «qp_u») (partOf «flag_v» «start_v» «qp_v»))) (now (component .entry)) (now (component .exit)) r ⌝ }
-    ensures exit { λ r. ⌜ now (coef .exit) ≡ subExit (subBlockOf «log2_w» «log2_h» offset «dq_shift» «it_shift» (partOf «flag_y» «start_y» «qp_y») (partOf «flag_u» «start_u» «qp_u») (partOf «flag_v» «start_v» «qp_v»)) (now (coef .entry)) ⌝ }
-{
-    let call = SubBlock {
-        logw: log2_w,
-        logh: log2_h,
-        offset: offset,
-        dqshift: dq_shift,
-        itshift: it_shift,
-        y: part(flag_y, start_y, qp_y),
-        u: part(flag_u, start_u, qp_u),
-        v: part(flag_v, start_v, qp_v),
-    };
-    tell_sub_block(crate::stub::evc_sub_block_itdq2(coef, call), component)
 }
