@@ -13,13 +13,9 @@ use Rattle.evc.specs.declared.Part.{Part}
 use Rattle.evc.specs.declared.SubBlock.{SubBlock}
 use Rattle.evc.specs.declared.Job.{Job}
 use Rattle.evc.specs.Answers.{Reply, replyNumber, valueOr, SubReply, accepted, refusedAt}
-use Rattle.evc.specs.Planes.{Plane}
 use Rattle.evc.specs.SubBlocks.{subReply, subExit}
 
 -- ---- what is handed in
-abbrev pub planeOf : {A : Type 0} → List A → ℕ → ℕ → ℕ → Plane A
-planeOf l width height stride = record { samples = l; width = width; height = height; stride = stride }
-
 abbrev pub jobOf : ℕ → ℕ → ℕ → ℕ → ℤ → ℕ → ℕ → Job
 jobOf start logw logh qp offset dqshift itshift =
     record { start = start; logw = logw; logh = logh; qp = qp; offset = offset; dqshift = dqshift; itshift = itshift }

@@ -2,7 +2,8 @@
 ghost use mathlib.Core.Path.{_≡_};
 ghost use lib.ListN.{length};
 ghost use Rattle.evc.specs.Calls.{diff16bNumber, diff16bExit, satd16b, ssd16b, ssd16i, sad16b, sadBi16b, sad16i, sadBi16i};
-ghost use Rattle.capi.specs.Boundary.{planeOf, Told};
+ghost use Rattle.sad.specs.Areas.{planeOf};
+ghost use Rattle.capi.specs.Boundary.{Told};
 use crate::numbers::answer_number;
 use crate::numbers::tell_distortion;
 use crate::numbers::tell_squared;
@@ -24,7 +25,7 @@ pub extern "C" fn tv_diff(
     ensures number { λ r. ⌜ r ≡ diff16bNumber (length (now (diff .entry))) (planeOf (now (org .entry)) width height stride) x y «log2_w» «log2_h» (now (cur .entry)) depth ⌝ }
     ensures exit { λ r. ⌜ now (diff .exit) ≡ diff16bExit (planeOf (now (org .entry)) width height stride) x y «log2_w» «log2_h» (now (cur .entry)) depth (now (diff .entry)) ⌝ }
 {
-    answer_number(crate::stub::evce_diff_16b(
+    answer_number(sad::evce_diff_16b(
         org,
         width,
         height,
@@ -78,7 +79,7 @@ pub extern "C" fn tv_ssd_16b(
     ensures { λ r. ⌜ Told (ssd16b (planeOf (now (org .entry)) width height stride) x y «log2_w» «log2_h» (now (cur .entry)) depth) (now (value .entry)) (now (value .exit)) r ⌝ }
 {
     tell_squared(
-        crate::stub::evce_ssd_16b(org, width, height, stride, x, y, log2_w, log2_h, cur, depth),
+        sad::evce_ssd_16b(org, width, height, stride, x, y, log2_w, log2_h, cur, depth),
         value,
     )
 }
@@ -215,7 +216,7 @@ pub extern "C" fn tv_sad_16i(
     ensures { λ r. ⌜ Told (sad16i (planeOf (now (org .entry)) width height stride) x y w h (now (pred .entry)) depth) (now (value .entry)) (now (value .exit)) r ⌝ }
 {
     tell_distortion(
-        crate::stub::evce_sad_16i(org, width, height, stride, x, y, w, h, pred, depth),
+        sad::evce_sad_16i(org, width, height, stride, x, y, w, h, pred, depth),
         value,
     )
 }

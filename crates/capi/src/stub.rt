@@ -6,7 +6,7 @@ ghost use Rattle.evc.specs.Stages.{stageOneNumber, stageTwoNumber, itxb0Exit, i
 ghost use Rattle.evc.specs.Jobs.{jobNumber, jobExit};
 ghost use Rattle.evc.specs.SubBlocks.{subReply, subExit};
 ghost use Rattle.evc.specs.Calls.{diff16bNumber, diff16bExit, satd16b, ssd16b, ssd16i, sad16b, sadBi16b, sad16i, sadBi16i};
-ghost use Rattle.capi.specs.Boundary.{planeOf};
+ghost use Rattle.sad.specs.Areas.{planeOf};
 use evc::Answer;
 use evc::Distortion;
 use evc::Job;
@@ -49,25 +49,6 @@ pub(crate) fn evc_sub_block_itdq2(coef: &mut [i16], call: SubBlock) -> SubAnswer
     SubAnswer::Done
 }
 
-pub(crate) fn evce_diff_16b(
-    org: &[u16],
-    width: usize,
-    height: usize,
-    stride: usize,
-    x: usize,
-    y: usize,
-    log2_w: usize,
-    log2_h: usize,
-    cur: &[u16],
-    depth: u8,
-    diff: &mut [i16],
-) -> Answer
-    ensures answer { λ r. ⌜ answerNumber r ≡ diff16bNumber (length (now (diff .entry))) (planeOf (now (org .entry)) width height stride) x y «log2_w» «log2_h» (now (cur .entry)) depth ⌝ }
-    ensures exit { λ r. ⌜ now (diff .exit) ≡ diff16bExit (planeOf (now (org .entry)) width height stride) x y «log2_w» «log2_h» (now (cur .entry)) depth (now (diff .entry)) ⌝ }
-{
-    Answer::Done
-}
-
 pub(crate) fn evce_satd_16b(
     org: &[u16],
     width: usize,
@@ -83,23 +64,6 @@ pub(crate) fn evce_satd_16b(
     ensures { λ r. ⌜ distortionReading r ≡ satd16b (planeOf (now (org .entry)) width height stride) x y w h (now (cur .entry)) depth ⌝ }
 {
     Distortion::Refused(Refusal::Size)
-}
-
-pub(crate) fn evce_ssd_16b(
-    org: &[u16],
-    width: usize,
-    height: usize,
-    stride: usize,
-    x: usize,
-    y: usize,
-    log2_w: usize,
-    log2_h: usize,
-    cur: &[u16],
-    depth: u8,
-) -> SquaredDistortion
-    ensures { λ r. ⌜ squaredReading r ≡ ssd16b (planeOf (now (org .entry)) width height stride) x y «log2_w» «log2_h» (now (cur .entry)) depth ⌝ }
-{
-    SquaredDistortion::Refused(Refusal::Size)
 }
 
 pub(crate) fn evce_ssd_16i(
@@ -157,23 +121,6 @@ pub(crate) fn evce_sad_bi_16b(
     depth: u8,
 ) -> Distortion
     ensures { λ r. ⌜ distortionReading r ≡ sadBi16b (now (bi .entry)) (planeOf (now (reference .entry)) «ref_width» «ref_height» «ref_stride») «mv_x» «mv_y» w h depth ⌝ }
-{
-    Distortion::Refused(Refusal::Size)
-}
-
-pub(crate) fn evce_sad_16i(
-    org: &[u16],
-    width: usize,
-    height: usize,
-    stride: usize,
-    x: usize,
-    y: usize,
-    w: usize,
-    h: usize,
-    pred: &[u16],
-    depth: u8,
-) -> Distortion
-    ensures { λ r. ⌜ distortionReading r ≡ sad16i (planeOf (now (org .entry)) width height stride) x y w h (now (pred .entry)) depth ⌝ }
 {
     Distortion::Refused(Refusal::Size)
 }
