@@ -13,9 +13,9 @@ tell-distortion-requires c κs = search needs
 
 returns : tie.Need-returns
 returns c =
-    let f = c .before .before .before .before .before .fits in
-    let mv-x = f .mv-x in
-    let mv-y = f .mv-y in
+    let fits = c .before .before .before .before .before .fits in
+    let mv-x = fits .mv-x in
+    let mv-y = fits .mv-y in
     told-as (simp toZ-ofZ at (c .before .before .evce-sad-16b .ensures)) (c .tell-distortion .ensures)
 
 pub tv-sad-16b-spec : {M : Type 1} → statement M

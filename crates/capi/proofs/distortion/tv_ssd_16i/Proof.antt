@@ -13,9 +13,9 @@ tell-squared-requires c κs = search needs
 
 returns : tie.Need-returns
 returns c =
-    let f = c .before .before .before .before .before .fits in
-    let x = f .x in
-    let y = f .y in
+    let fits = c .before .before .before .before .before .fits in
+    let x = fits .x in
+    let y = fits .y in
     told-as (simp toZ-ofZ at (c .before .before .evce-ssd-16i .ensures)) (c .tell-squared .ensures)
 
 pub tv-ssd-16i-spec : {M : Type 1} → statement M

@@ -16,11 +16,11 @@ same-length c = search needs
 
 returns : tie.Need-returns
 returns c =
-    let f = c .before .before .before .before .fits in
-    let s = f .scale in
-    let o = f .offset in
-    (c .answer-number .ensures ∙ c .before .before .evc-dquant .ensures .0, simp toZ-ofZ at (c .before .before .evc-dquant .ensures .1))
+    let fits = c .before .before .before .before .fits in
+    let scale = fits .scale in
+    let offset = fits .offset in
+    let done = simp toZ-ofZ at (c .before .before .evc-dquant .ensures) in
+    (c .answer-number .ensures ∙ done .0, done .1)
 
 pub tv-dquant-spec : {M : Type 1} → statement M
-tv-dquant-spec =
-    tie.close (tie.spec evc-dquant-requires answer-number-requires same-length returns)
+tv-dquant-spec = tie.close (tie.spec evc-dquant-requires answer-number-requires same-length returns)
