@@ -1,8 +1,8 @@
 -- Answers as C numbers, and C numbers as what the definitions take. Every contract of src/ that lends a place for a value or a component
 -- cites these. Assumes nothing.
-use Prim.Native.Nat.{ℕ, zero, suc}
+use Prim.Native.Nat.{ℕ}
 use mathlib.Core.Path.{_≡_}
-use mathlib.Core.Bool.{Bool, not}
+use mathlib.Core.Bool.{not}
 use mathlib.Core.List.{List}
 use lib.Dec.{eqb}
 use lib.IntN.{ℤ}
@@ -16,6 +16,7 @@ use Rattle.evc.specs.Answers.{Reply, replyNumber, valueOr, SubReply, accepted, 
 use Rattle.evc.specs.SubBlocks.{subReply, subExit}
 
 -- ---- what is handed in
+-- a job, by its numbers in their order
 abbrev pub jobOf : ℕ → ℕ → ℕ → ℕ → ℤ → ℕ → ℕ → Job
 jobOf start logw logh qp offset dqshift itshift =
     record { start = start; logw = logw; logh = logh; qp = qp; offset = offset; dqshift = dqshift; itshift = itshift }
@@ -24,6 +25,7 @@ jobOf start logw logh qp offset dqshift itshift =
 abbrev pub partOf : ℕ → ℕ → ℕ → Part
 partOf flag start qp = record { flag = not (eqb flag 0); start = start; qp = qp }
 
+-- a sub-block call, by its numbers and its components
 abbrev pub subBlockOf : ℕ → ℕ → ℤ → ℕ → ℕ → Part → Part → Part → SubBlock
 subBlockOf logw logh offset dqshift itshift y u v =
     record { logw = logw; logh = logh; offset = offset; dqshift = dqshift; itshift = itshift; y = y; u = u; v = v }
@@ -34,11 +36,13 @@ pub record Told {A : Type 0} (reply : Reply A) (before after : A) (n : ℕ) : Ty
   pub number : n ≡ replyNumber reply
   pub value : after ≡ valueOr reply before
 
+-- C's number of a component
 abbrev pub componentNumber : Component → ℕ
 componentNumber Y = 0
 componentNumber U = 1
 componentNumber «V» = 2
 
+-- the number of a sub-block's answer, and its component: where it names none, what stood there before
 abbrev pub subNumber : SubReply → ℕ
 subNumber accepted = 0
 subNumber (refusedAt c n) = n
