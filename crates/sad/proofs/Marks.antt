@@ -1,19 +1,21 @@
 -- SAMPLE by the OR of all marks: a power of two is reached by an OR exactly where it is reached by a number in it. Assumes nothing.
 use mathlib.Core.Path.{_≡_, refl, sym, ap, ap₂, _∙_}
-use mathlib.Core.Bool.{Bool, true, false, _||_}
+use mathlib.Core.Bool.{Bool, true, false, cond, _||_}
 use Prim.Native.Nat.{ℕ, zero, suc, _+_, _^_, _≤_, _<_}
 use native.Mathlib.Nat.{not-suc-le-zero}
 use native.Mathlib.Decide.{ℕ-discrete}
 use native.Mathlib.Omega.{arith}
 use lib.Dec.{leb}
-use lib.Pow.{pow-pos}
+use lib.IntN.{ℤ}
+use lib.Pow.{pow-pos, pow-mono}
 use lib.Bits.{bitOr, bitAnd, or-lt, or-add-and, and-le-l, and-le-r}
 use borrow.Author.Tests.{leb-true, leb-false, le-leb, lt-leb}
 use Rattle.integers.specs.Sum.{sum}
 use Rattle.integers.proofs.Sum.{sum-add, sum-ext}
-use Rattle.evc.specs.Planes.{anyBelow}
+use Rattle.evc.specs.Planes.{anyBelow, tooLow}
 use Rattle.sad.proofs.Booleans.{or-left, or-right}
 use Rattle.sad.specs.Or.{ofOr, orN}
+use Rattle.sad.specs.Totals.{lowMark}
 
 -- ---- for integers
 pub or-reaches : (k a b : ℕ) → leb (2 ^ k) (bitOr a b) ≡ leb (2 ^ k) a || leb (2 ^ k) b
@@ -68,3 +70,12 @@ below-all w h k f g any e p j i m n =
       leb-false (2 ^ k) (f j i) (any-none w (λ i. leb (2 ^ k) (f j i)) (any-none h F (or-left (anyBelow h F) (anyBelow h G) t) j m) i n),
       leb-false (2 ^ k) (g j i) (any-none w (λ i. leb (2 ^ k) (g j i)) (any-none h G (or-right (anyBelow h F) (anyBelow h G) t) j m) i n),
     )
+
+-- the mark of a bi-prediction value reaches every depth exactly where the value is too low
+pub low-marked : (depth : ℕ) (v : ℤ) → depth ≤ 14 → tooLow v ≡ leb (2 ^ depth) (lowMark v)
+unfolding lowMark
+low-marked depth v h = go (tooLow v)
+  where
+    go : (t : Bool) → t ≡ leb (2 ^ depth) (cond t 65535 0)
+    go true = let p : 2 ^ depth ≤ 2 ^ 14 = pow-mono h in sym (le-leb (2 ^ depth) 65535 (omega arith))
+    go false = sym (lt-leb (2 ^ depth) 0 (pow-pos depth))

@@ -10,10 +10,10 @@ use lib.ListN.{length, getD}
 use lib.IntN.{ℤ, pos}
 use borrow.Author.Tests.{ltb-false}
 use Rattle.order.specs.Positions.{reach}
-use Rattle.evc.specs.Planes.{Plane, Block, inPlane}
+use Rattle.evc.specs.Planes.{Plane, Block, inPlane, biPacked}
 use Rattle.sad.specs.Areas.{planeOf, badPlane, outsidePlane}
 use Rattle.sad.specs.Totals.{cell}
-use Rattle.sad.specs.Rests.{strided}
+use Rattle.sad.specs.Rests.{strided, biRows}
 use Rattle.sad.proofs.Booleans.{or-left, or-right, WellFormed, well-formed}
 use Rattle.sad.proofs.Replies.{Alike}
 
@@ -52,3 +52,8 @@ plane-alike l width height stride x y w h depth start e = record {
   where
     place : (j i : ℕ) → start + j * stride + i ≡ (y + j) * stride + (x + i)
     place j i = let d = add-mul y j stride in omega arith
+
+-- bi-prediction values of a packed block
+pub bi-alike : (l : List ℤ) (w h : ℕ) → Alike w h (biRows l w) (biPacked l w h)
+unfolding cell
+bi-alike l w h = record { reads = λ j i p q. let e : 0 + j * w + i ≡ j * w + i = omega arith in ap (λ (k : ℕ). getD l k (pos 0)) e; bad = λ v. refl }

@@ -5,12 +5,13 @@ use native.Mathlib.Omega.{arith}
 use lib.Dec.{ltb}
 use mathlib.Core.Bool.{false}
 use borrow.Author.Tests.{lt-ltb, le-ltb, ltb-false}
-use lib.IntN.{ℤ, pos, negsuc, _+ℤ_, natAbs}
-use lib.Signed.{_≤ℤ_, ltZ}
+use lib.IntN.{ℤ, pos, negsuc, _+ℤ_, _-ℤ_, negℤ, natAbs}
+use lib.Signed.{_≤ℤ_, _<ℤ_, ltZ}
 use mir.Syntax.{w16}
 use mir.Val.{SFits}
 use Rattle.integers.proofs.Dif.{dif, up, dn, of, of-pos, dif-part, dif-eq, difs}
-use Rattle.integers.proofs.Order.{signed, dif-≤, sfits-parts}
+use Rattle.integers.proofs.Order.{signed, ≤-nat, dif-≤, sfits-parts}
+use Rattle.integers.proofs.Bound.{abs-neg}
 use Rattle.evc.specs.Planes.{edge, pastEdge}
 use Rattle.sad.proofs.Booleans.{ltb-same}
 
@@ -30,6 +31,17 @@ sum-parts x n = at (x +ℤ pos n) (sum-of x (pos n) (up x) (dn x) (of x) (of-pos
 
     at : (z : ℤ) → z ≡ dif (up x + n) (dn x) → up z + dn x ≡ up x + n + dn z
     at z e = rw e (dif-part (up x + n) (dn x))
+
+-- a difference turned round
+sub-turn : (x y : ℤ) → x -ℤ y ≡ negℤ (y -ℤ x)
+sub-turn x y = rw (of x, of y) (simp difs (dif-eq _ _ _ _ (omega arith)))
+
+pub abs-turn : (x y : ℤ) → natAbs (x -ℤ y) ≡ natAbs (y -ℤ x)
+abs-turn x y = ap natAbs (sub-turn x y) ∙ abs-neg (y -ℤ x)
+
+-- the larger less the smaller
+pub sub-nonneg : (x y : ℤ) → y ≤ℤ x → pos 0 ≤ℤ (x -ℤ y)
+sub-nonneg x y h = let p = ≤-nat h in rw (of x, of y, of-pos 0) (simp difs (dif-≤ _ _ _ _ (omega arith)))
 
 -- x counted from the lowest i16 on is not negative
 pub from-lowest : (x : ℤ) → SFits w16 x → pos 0 ≤ℤ (x +ℤ pos 32768)
@@ -56,3 +68,11 @@ not-past x w side e = ltb-false (side + dn x) (up x + w) (sym (ends x w side) �
 pub edge-up : (x : ℤ) → edge x ≡ up x
 edge-up (pos n) = refl
 edge-up (negsuc n) = refl
+
+pub edge-neg : (x : ℤ) → x <ℤ pos 0 → 0 ≡ edge x
+edge-neg (pos n) h = let z : ⊥ = omega signed in absurd z
+edge-neg (negsuc n) h = refl
+
+pub edge-pos : (x : ℤ) → pos 0 ≤ℤ x → natAbs x ≡ edge x
+edge-pos (pos n) h = refl
+edge-pos (negsuc n) h = let z : ⊥ = omega signed in absurd z

@@ -4,3 +4,4 @@ pub mod Totals
 pub mod Areas
 pub mod Rests
 pub mod Small
+pub mod Edges

@@ -10,7 +10,7 @@ use Rattle.integers.specs.Lists.{written}
 use Rattle.order.specs.Jobs.{ifAccepted}
 use Rattle.evc.specs.Answers.{Reply}
 use Rattle.evc.specs.Tests.{first, reply}
-use Rattle.evc.specs.Planes.{Block, tooLarge}
+use Rattle.evc.specs.Planes.{Block, tooLarge, tooLow}
 use Rattle.evc.specs.Differences.{difference, diffAt}
 use Rattle.evc.specs.Calls.{sampleTests}
 use Rattle.sad.specs.Totals.{cell}
@@ -18,6 +18,10 @@ use Rattle.sad.specs.Totals.{cell}
 -- samples whose rows stand a stride apart in a buffer that is long enough
 abbrev pub strided : List ℕ → ℕ → ℕ → ℕ → Block
 strided l start stride depth = record { area = false; reads = λ j i. pos (cell 0 l start stride j i); bad = tooLarge depth }
+
+-- bi-prediction values of a packed block that is long enough
+abbrev pub biRows : List ℤ → ℕ → Block
+biRows l w = record { area = false; reads = λ j i. cell (pos 0) l 0 w j i; bad = tooLow }
 
 -- SAMPLE where a value of either block is bad, else the value v
 unfoldable pub rest : {A : Type 0} → ℕ → ℕ → Block → Block → A → Reply A

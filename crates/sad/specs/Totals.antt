@@ -3,9 +3,11 @@ use mathlib.Core.Path.{_≡_}
 use mathlib.Core.List.{List}
 use Prim.Native.Nat.{ℕ, _+_, _*_, _/_, _^_, _≤_}
 use lib.ListN.{length, getD, take, drop}
-use lib.IntN.{pos, natAbs, _-ℤ_}
+use mathlib.Core.Bool.{cond}
+use lib.IntN.{ℤ, pos, natAbs, _-ℤ_}
 use Rattle.integers.specs.Sum.{sumN}
 use Rattle.order.specs.Positions.{reach}
+use Rattle.evc.specs.Planes.{tooLow}
 use Rattle.sad.specs.Or.{orN}
 
 -- of two samples: how far they are apart, and that squared and divided by 2^shift
@@ -14,6 +16,13 @@ apart p q = natAbs (pos p -ℤ pos q)
 
 unfoldable pub squared : ℕ → ℕ → ℕ → ℕ
 squared shift p q = apart p q * apart p q / 2 ^ shift
+
+-- of a bi-prediction value and a sample: how far they are apart; and a mark that no depth holds where the value is too low
+unfoldable pub apartBi : ℤ → ℕ → ℕ
+apartBi v q = natAbs (v -ℤ pos q)
+
+unfoldable pub lowMark : ℤ → ℕ
+lowMark v = cond (tooLow v) 65535 0
 
 -- ---- rows
 -- two rows of w values

@@ -9,10 +9,10 @@ ghost use Rattle.evc.specs.Answers.{distortionReading};
 ghost use Rattle.evc.specs.declared.Refusal.the-variants as number;
 ghost use Rattle.evc.specs.Tests.{first, reply, _when_};
 ghost use Rattle.evc.specs.Differences.{difference, sadTotal};
-ghost use Rattle.evc.specs.Calls.{sad16i};
+ghost use Rattle.evc.specs.Calls.{sad16i, sadBi16i};
 ghost use Rattle.sad.specs.Areas.{planeOf};
 ghost use Rattle.sad.specs.Totals.{TwoBlocks};
-ghost use Rattle.sad.specs.Rests.{strided, rest};
+ghost use Rattle.sad.specs.Rests.{strided, biRows, rest};
 use crate::rows::Totals;
 use evc::Distortion;
 use evc::Refusal;
@@ -51,6 +51,15 @@ fn of_blocks(
     )
 }
 
+// Bi-prediction values and a block of samples, after all other tests.
+fn of_bi(bi: &[i16], b: &[u16], b_at: usize, b_stride: usize, w: usize, h: usize, depth: u8) -> Distortion
+    requires { ⌜ TwoBlocks w h (length (now bi)) 0 w (length (now b)) «b_at» «b_stride» ⌝ }
+    requires { ⌜ (8 ≤ depth) × (depth ≤ 14) ⌝ }
+    ensures { λ r. ⌜ distortionReading r ≡ rest w h (biRows (now (bi .entry)) w) (strided (now (b .entry)) «b_at» «b_stride» depth) (sadTotal w h (difference (biRows (now (bi .entry)) w) (strided (now (b .entry)) «b_at» «b_stride» depth)) / 2 ^ (depth - 8)) ⌝ }
+{
+    end(crate::bi::sad_block(bi, b, b_at, b_stride, w, h), depth)
+}
+
 pub fn evce_sad_16i(
     org: &[u16],
     width: usize,
@@ -78,4 +87,22 @@ pub fn evce_sad_16i(
         return Distortion::Refused(Refusal::Area);
     }
     of_blocks(org, y * stride + x, stride, pred, 0, w, w, h, depth)
+}
+
+pub fn evce_sad_bi_16i(bi: &[i16], pred: &[u16], w: usize, h: usize, depth: u8) -> Distortion
+    ensures { λ r. ⌜ distortionReading r ≡ sadBi16i (now (bi .entry)) (now (pred .entry)) w h depth ⌝ }
+{
+    if crate::tests::sides(w, h) {
+        return Distortion::Refused(Refusal::Size);
+    }
+    if crate::tests::wrong_depth(depth) {
+        return Distortion::Refused(Refusal::Depth);
+    }
+    if crate::tests::malformed(bi.len(), w, h, w) {
+        return Distortion::Refused(Refusal::Area);
+    }
+    if crate::tests::outside_plane(pred.len(), w, h, w, 0, 0, w, h) {
+        return Distortion::Refused(Refusal::Area);
+    }
+    of_bi(bi, pred, 0, w, w, h, depth)
 }

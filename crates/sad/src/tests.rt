@@ -60,7 +60,7 @@ fn too_short(n: usize, width: usize, height: usize, stride: usize) -> bool
 }
 
 // A plane of n samples breaks the rule of planes.
-fn malformed(n: usize, width: usize, height: usize, stride: usize) -> bool
+pub(crate) fn malformed(n: usize, width: usize, height: usize, stride: usize) -> bool
     ensures { λ r. ⌜ r ≡ badPlane n width height stride ⌝ }
 {
     if outside(1, 16384, width) {
