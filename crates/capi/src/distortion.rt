@@ -232,5 +232,5 @@ pub extern "C" fn tv_sad_bi_16i(
 ) -> u8
     ensures { λ r. ⌜ Told (sadBi16i (now (bi .entry)) (now (pred .entry)) w h depth) (now (value .entry)) (now (value .exit)) r ⌝ }
 {
-    tell_distortion(crate::stub::evce_sad_bi_16i(bi, pred, w, h, depth), value)
+    tell_distortion(sad::evce_sad_bi_16i(bi, pred, w, h, depth), value)
 }

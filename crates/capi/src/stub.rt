@@ -15,40 +15,6 @@ use evc::SquaredDistortion;
 use evc::SubAnswer;
 use evc::SubBlock;
 
-pub(crate) fn itxb0(src: &[i16], dst: &mut [i32], log2_n: usize, log2_line: usize) -> Answer
-    ensures answer { λ r. ⌜ answerNumber r ≡ stageOneNumber (length (now (src .entry))) (length (now (dst .entry))) «log2_n» «log2_line» ⌝ }
-    ensures exit { λ r. ⌜ now (dst .exit) ≡ itxb0Exit «log2_n» «log2_line» (now (src .entry)) (now (dst .entry)) ⌝ }
-{
-    Answer::Done
-}
-
-pub(crate) fn itxb1(
-    src: &[i32],
-    dst: &mut [i16],
-    log2_n: usize,
-    log2_line: usize,
-    shift: u8,
-) -> Answer
-    ensures answer { λ r. ⌜ answerNumber r ≡ stageTwoNumber (length (now (src .entry))) (length (now (dst .entry))) «log2_n» «log2_line» shift ⌝ }
-    ensures exit { λ r. ⌜ now (dst .exit) ≡ itxb1Exit «log2_n» «log2_line» shift (now (src .entry)) (now (dst .entry)) ⌝ }
-{
-    Answer::Done
-}
-
-pub(crate) fn evc_itdq_job(coef: &mut [i16], job: Job) -> Answer
-    ensures answer { λ r. ⌜ answerNumber r ≡ jobNumber (length (now (coef .entry))) job ⌝ }
-    ensures exit { λ r. ⌜ now (coef .exit) ≡ jobExit job (now (coef .entry)) ⌝ }
-{
-    Answer::Done
-}
-
-pub(crate) fn evc_sub_block_itdq2(coef: &mut [i16], call: SubBlock) -> SubAnswer
-    ensures answer { λ r. ⌜ subReading r ≡ subReply (length (now (coef .entry))) call ⌝ }
-    ensures exit { λ r. ⌜ now (coef .exit) ≡ subExit call (now (coef .entry)) ⌝ }
-{
-    SubAnswer::Done
-}
-
 pub(crate) fn evce_satd_16b(
     org: &[u16],
     width: usize,
@@ -121,12 +87,6 @@ pub(crate) fn evce_sad_bi_16b(
     depth: u8,
 ) -> Distortion
     ensures { λ r. ⌜ distortionReading r ≡ sadBi16b (now (bi .entry)) (planeOf (now (reference .entry)) «ref_width» «ref_height» «ref_stride») «mv_x» «mv_y» w h depth ⌝ }
-{
-    Distortion::Refused(Refusal::Size)
-}
-
-pub(crate) fn evce_sad_bi_16i(bi: &[i16], pred: &[u16], w: usize, h: usize, depth: u8) -> Distortion
-    ensures { λ r. ⌜ distortionReading r ≡ sadBi16i (now (bi .entry)) (now (pred .entry)) w h depth ⌝ }
 {
     Distortion::Refused(Refusal::Size)
 }

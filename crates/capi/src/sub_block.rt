@@ -47,5 +47,5 @@ pub extern "C" fn tv_sub_block(
         u: part(flag_u, start_u, qp_u),
         v: part(flag_v, start_v, qp_v),
     };
-    tell_sub_block(crate::stub::evc_sub_block_itdq2(coef, call), component)
+    tell_sub_block(itdq::evc_sub_block_itdq2(coef, call), component)
 }

@@ -25,7 +25,11 @@ fn distance(v: i16, q: u16) -> u32
 {
     let x = v as i32;
     let y = q as i32;
-    if x < y { (y - x) as u32 } else { (x - y) as u32 }
+    if x < y {
+        (y - x) as u32
+    } else {
+        (x - y) as u32
+    }
 }
 
 // The mark of a value that is too low.
@@ -62,7 +66,11 @@ fn sad_rows(a: &[i16], b: &[u16], b_at: usize, b_stride: usize, w: usize, h: usi
     let mut sum: u64 = 0;
     let mut any: u16 = 0;
     for j in 0..h {
-        let t = sad_row(row(a, 0, w, j, w), crate::rows::row(b, b_at, b_stride, j, w), w);
+        let t = sad_row(
+            row(a, 0, w, j, w),
+            crate::rows::row(b, b_at, b_stride, j, w),
+            w,
+        );
         sum = sum + t.sum;
         any = any | t.any;
     }
@@ -70,7 +78,14 @@ fn sad_rows(a: &[i16], b: &[u16], b_at: usize, b_stride: usize, w: usize, h: usi
 }
 
 // The same, with the common widths as literals.
-pub(crate) fn sad_block(a: &[i16], b: &[u16], b_at: usize, b_stride: usize, w: usize, h: usize) -> Totals
+pub(crate) fn sad_block(
+    a: &[i16],
+    b: &[u16],
+    b_at: usize,
+    b_stride: usize,
+    w: usize,
+    h: usize,
+) -> Totals
     requires { ⌜ TwoBlocks w h (length (now a)) 0 w (length (now b)) «b_at» «b_stride» ⌝ }
     ensures { λ r. ⌜ Compared w h (λ j i. apartBi (cell (pos 0) (now (a .entry)) 0 w j i) (cell 0 (now (b .entry)) «b_at» «b_stride» j i)) (λ j i. bitOr (lowMark (cell (pos 0) (now (a .entry)) 0 w j i)) (cell 0 (now (b .entry)) «b_at» «b_stride» j i)) (r .sum) (r .any) ⌝ }
     ensures { λ r. ⌜ r .sum ≤ h * 6291392 ⌝ }

@@ -31,7 +31,15 @@ fn edge_row(l: &[u16], base: usize, x: i16, w: usize, out: &mut [u16])
 }
 
 // The block, row after row, into the first places of out.
-pub(crate) fn edge_block(l: &[u16], stride: usize, x: i16, y: i16, w: usize, h: usize, out: &mut [u16])
+pub(crate) fn edge_block(
+    l: &[u16],
+    stride: usize,
+    x: i16,
+    y: i16,
+    w: usize,
+    h: usize,
+    out: &mut [u16],
+)
     requires { ⌜ EdgesIn (length (now l)) stride x y w h ⌝ }
     requires { ⌜ h * w ≤ length (now out) ⌝ }
     ensures { λ _. ⌜ now (out .exit) ≡ written (h * w) (edgeAt (now (l .entry)) stride x y w) (now (out .entry)) ⌝ }

@@ -52,7 +52,15 @@ fn of_blocks(
 }
 
 // Bi-prediction values and a block of samples, after all other tests.
-fn of_bi(bi: &[i16], b: &[u16], b_at: usize, b_stride: usize, w: usize, h: usize, depth: u8) -> Distortion
+fn of_bi(
+    bi: &[i16],
+    b: &[u16],
+    b_at: usize,
+    b_stride: usize,
+    w: usize,
+    h: usize,
+    depth: u8,
+) -> Distortion
     requires { ⌜ TwoBlocks w h (length (now bi)) 0 w (length (now b)) «b_at» «b_stride» ⌝ }
     requires { ⌜ (8 ≤ depth) × (depth ≤ 14) ⌝ }
     ensures { λ r. ⌜ distortionReading r ≡ rest w h (biRows (now (bi .entry)) w) (strided (now (b .entry)) «b_at» «b_stride» depth) (sadTotal w h (difference (biRows (now (bi .entry)) w) (strided (now (b .entry)) «b_at» «b_stride» depth)) / 2 ^ (depth - 8)) ⌝ }

@@ -57,10 +57,11 @@ loop-again c =
     let l = c .before .before .before .before .before .loop in
     let a = c .before .before .before .before .before .before .before .args in
     let z = getD (a .a .now) (l .i) (pos 0) in
-    let v : toZ w16 (ofZ w16 z) ≡ z = toZ-ofZ (record { sfits = c .before .before .before .v .given }) in
-    (running-step (l .inv .0) (omega arith) (c .distance .ensures .0 ∙ ap (λ (z : ℤ). apartBi z (getD (a .b .now) (l .i) 0)) v)
-      (ap (λ (m : ℕ). bitOr m (getD (a .b .now) (l .i) 0)) (c .before .mark .ensures ∙ ap lowMark v)),
-      omega (arith, c .distance .ensures .1))
+    let v : toZ w16 (ofZ w16 z) ≡ z = toZ-ofZ (record { sfits = c .before .before .before .v .given }) in (
+      running-step (l .inv .0) (omega arith) (c .distance .ensures .0 ∙ ap (λ (z : ℤ). apartBi z (getD (a .b .now) (l .i) 0)) v)
+          (ap (λ (m : ℕ). bitOr m (getD (a .b .now) (l .i) 0)) (c .before .mark .ensures ∙ ap lowMark v)),
+      omega (arith, c .distance .ensures .1),
+    )
 
 cast-all : tie.Need-cast-all Inv-loop μ-loop
 cast-all c = omega (arith, c .before .before .before .pre)

@@ -97,8 +97,8 @@ placed c =
     c .edge-row .ensures
     ∙ tab-ext (a .w) (λ i. getD (a .l .now) (base + edge (x +ℤ pos i)) 0) (λ i. edgeAt (a .l .now) (a .stride) x y (a .w) (j * a .w + i))
     (λ i p.
-      ap (λ (n : ℕ). getD (a .l .now) (n * a .stride + edge (x +ℤ pos i)) 0) (c .before .before .edge .ensures)
-      ∙ sym (grid-at (edgeCell (a .l .now) (a .stride) x y) j i (a .w) p))
+    ap (λ (n : ℕ). getD (a .l .now) (n * a .stride + edge (x +ℤ pos i)) 0) (c .before .before .edge .ensures)
+    ∙ sym (grid-at (edgeCell (a .l .now) (a .stride) x y) j i (a .w) p))
 
 add-j : tie.Need-add-j Inv-loop μ-loop
 add-j c = omega arith

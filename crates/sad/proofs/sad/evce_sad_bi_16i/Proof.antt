@@ -60,13 +60,15 @@ returns-4 c =
 of-bi-requires : tie.Need-of-bi-requires
 of-bi-requires c κs =
     let a = c .before .before .before .before .before .before .before .before .before .args in
-    let s = sized (c .before .before .before .before .before .before) in
-    (record {
-      narrow = inside 1 64 (a .w) (or-left (outside 1 64 (a .w)) (outside 1 64 (a .h)) s) .1;
-      low = inside 1 64 (a .h) (or-right (outside 1 64 (a .w)) (outside 1 64 (a .h)) s) .1;
-      one = well-formed (length (a .bi .now)) (a .w) (a .h) (a .w) (one (c .before .before)) .long;
-      two = is-inside (length (a .pred .now)) (a .w) (a .h) (a .w) 0 0 (a .w) (a .h) (two c) .formed .long;
-    }, inside 8 14 (a .depth) (deep (c .before .before .before .before)))
+    let s = sized (c .before .before .before .before .before .before) in (
+      record {
+        narrow = inside 1 64 (a .w) (or-left (outside 1 64 (a .w)) (outside 1 64 (a .h)) s) .1;
+        low = inside 1 64 (a .h) (or-right (outside 1 64 (a .w)) (outside 1 64 (a .h)) s) .1;
+        one = well-formed (length (a .bi .now)) (a .w) (a .h) (a .w) (one (c .before .before)) .long;
+        two = is-inside (length (a .pred .now)) (a .w) (a .h) (a .w) 0 0 (a .w) (a .h) (two c) .formed .long;
+      },
+      inside 8 14 (a .depth) (deep (c .before .before .before .before)),
+    )
 
 returns-5 : tie.Need-returns-5
 returns-5 c =
