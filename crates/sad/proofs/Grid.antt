@@ -6,6 +6,7 @@ use native.Mathlib.Nat.{mul-le-mul-right, zero-add, suc-add, add-mul, le-antisym
 use native.Mathlib.Omega.{arith}
 use lib.ListN.{length, take, drop, length-take, length-drop}
 use lib.Seq.{drop-drop, take-at, drop-at}
+use Rattle.order.specs.Positions.{reach}
 use Rattle.integers.specs.Lists.{tab, written}
 use Rattle.integers.proofs.Written.{tab-length, tab-ext, written-none, written-length}
 
@@ -70,3 +71,10 @@ module _ {A : Type 0} {w h : ℕ} {g : ℕ → A} {l : List A} where
 
   pub wrote-end : {cur : List A} {j : ℕ} → Wrote w h g l cur j → h ≤ j → cur ≡ written (h * w) g l
   wrote-end {cur} {j} r p = r .is ∙ ap (λ (n : ℕ). written (n * w) g l) (le-antisymm (r .most) p)
+
+-- h packed rows of w end after h · w
+pub rows-flat : (w h : ℕ) → 1 ≤ h → reach 0 w w h ≡ h * w
+rows-flat w h p =
+    let e : h ≡ h - 1 + 1 = omega arith in
+    let d : h * w ≡ (h - 1) * w + w = ap (λ (n : ℕ). n * w) e ∙ next (h - 1) w in
+    omega arith

@@ -11,3 +11,4 @@ pub mod Replies
 pub mod Planes
 pub mod Logs
 pub mod Differing
+pub mod AtEdges

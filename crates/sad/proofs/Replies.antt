@@ -76,6 +76,9 @@ pub record Alike (w h : ℕ) (a b : Block) : Type 0 where
   pub reads : (j i : ℕ) → j < h → i < w → a .reads j i ≡ b .reads j i
   pub bad : (v : ℤ) → a .bad v ≡ b .bad v
 
+pub alike : (w h : ℕ) (a : Block) → Alike w h a a
+alike w h a = record { reads = λ j i p q. refl; bad = λ v. refl }
+
 pub bad-alike : {w h : ℕ} {a a′ : Block} → Alike w h a a′ → anyBad w h a ≡ anyBad w h a′
 bad-alike {w} {h} {a} {a′} p =
     any-ext h (λ j. anyBelow w (λ i. a .bad (a .reads j i))) (λ j. anyBelow w (λ i. a′ .bad (a′ .reads j i)))

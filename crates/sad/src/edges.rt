@@ -2,12 +2,14 @@
 // "Distortion": where the Rust takes the larger of a position and 0.
 // Differs from the Rust in: positions are added in 32 bits, so that nothing wraps at 32767; the block is read once, before it is compared.
 ghost use mathlib.Core.Path.{_≡_};
-ghost use Prim.Native.Nat.{_+_, _*_, _<_, _≤_};
-ghost use lib.IntN.{pos, _+ℤ_};
+ghost use Prim.Native.Nat.{_+_, _*_, _^_, _<_, _≤_};
+ghost use mathlib.Core.Bool.{_||_};
+ghost use lib.IntN.{pos, natAbs, _+ℤ_};
+ghost use lib.Signed.{ltZ};
 ghost use lib.ListN.{length, getD};
 ghost use Rattle.integers.specs.Lists.{tab, written};
 ghost use Rattle.evc.specs.Planes as plane;
-ghost use Rattle.sad.specs.Edges.{edgeAt, RowEdges, EdgesIn};
+ghost use Rattle.sad.specs.Edges.{edgeAt, RowEdges, EdgesIn, Plain};
 
 // Where the i-th position from p on reads: the larger of it and 0.
 fn edge(p: i16, i: usize) -> usize
@@ -50,4 +52,20 @@ pub(crate) fn edge_block(
         let to = from + w;
         edge_row(l, base, x, w, &mut out[from..to]);
     }
+}
+
+// Either position is negative.
+pub(crate) fn negative(x: i16, y: i16) -> bool
+    ensures { λ r. ⌜ r ≡ ltZ x (pos 0) || ltZ y (pos 0) ⌝ }
+{
+    if x < 0 { true } else { y < 0 }
+}
+
+// Where a block stands in its plane, if neither position is negative.
+pub(crate) fn start(stride: usize, x: i16, y: i16) -> usize
+    requires { ⌜ Plain x y ⌝ }
+    requires { ⌜ natAbs y * stride + natAbs x < 2 ^ 64 ⌝ }
+    ensures { λ r. ⌜ r ≡ natAbs y * stride + natAbs x ⌝ }
+{
+    (y as usize) * stride + (x as usize)
 }

@@ -9,6 +9,9 @@ mod ssd;
 mod tests;
 
 pub use diff::evce_diff_16b;
+pub use sad::evce_sad_16b;
 pub use sad::evce_sad_16i;
+pub use sad::evce_sad_bi_16b;
 pub use sad::evce_sad_bi_16i;
 pub use ssd::evce_ssd_16b;
+pub use ssd::evce_ssd_16i;
