@@ -57,7 +57,7 @@ pub extern "C" fn tv_satd(
     ensures { λ r. ⌜ Told (satd16b (planeOf (now (org .entry)) width height stride) x y w h (now (cur .entry)) depth) (now (value .entry)) (now (value .exit)) r ⌝ }
 {
     tell_distortion(
-        crate::stub::evce_satd_16b(org, width, height, stride, x, y, w, h, cur, depth),
+        sad::evce_satd_16b(org, width, height, stride, x, y, w, h, cur, depth),
         value,
     )
 }
@@ -104,7 +104,7 @@ pub extern "C" fn tv_ssd_16i(
     ensures { λ r. ⌜ Told (ssd16i (planeOf (now (one .entry)) width1 height1 stride1) (planeOf (now (two .entry)) width2 height2 stride2) x y «log2_w» «log2_h» depth) (now (value .entry)) (now (value .exit)) r ⌝ }
 {
     tell_squared(
-        crate::stub::evce_ssd_16i(
+        sad::evce_ssd_16i(
             one,
             width1,
             height1,
@@ -145,7 +145,7 @@ pub extern "C" fn tv_sad_16b(
     ensures { λ r. ⌜ Told (sad16b (planeOf (now (org .entry)) width height stride) x y (planeOf (now (reference .entry)) «ref_width» «ref_height» «ref_stride») «mv_x» «mv_y» w h depth) (now (value .entry)) (now (value .exit)) r ⌝ }
 {
     tell_distortion(
-        crate::stub::evce_sad_16b(
+        sad::evce_sad_16b(
             org,
             width,
             height,
@@ -183,7 +183,7 @@ pub extern "C" fn tv_sad_bi_16b(
     ensures { λ r. ⌜ Told (sadBi16b (now (bi .entry)) (planeOf (now (reference .entry)) «ref_width» «ref_height» «ref_stride») «mv_x» «mv_y» w h depth) (now (value .entry)) (now (value .exit)) r ⌝ }
 {
     tell_distortion(
-        crate::stub::evce_sad_bi_16b(
+        sad::evce_sad_bi_16b(
             bi,
             reference,
             ref_width,

@@ -2,6 +2,5 @@
 // A slice passes as a pointer and a length. Every export answers the paper's number, 0 for accepted.
 mod distortion;
 mod numbers;
-mod stub;
 mod sub_block;
 mod transform;
