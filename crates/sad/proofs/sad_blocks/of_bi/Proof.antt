@@ -8,8 +8,8 @@ use Rattle.sad.specs.Totals.{apartBi, lowMark, cell}
 use Rattle.sad.specs.Rests.{strided, biRows, rest}
 use Rattle.sad.proofs.Marks.{low-marked}
 use Rattle.sad.proofs.Replies.{marked-rest}
-use Rattle.sad.proofs.sad.of_bi.Statement.{statement}
-use Rattle.sad.proofs.sad.of_bi.Tie as tie
+use Rattle.sad.proofs.sad_blocks.of_bi.Statement.{statement}
+use Rattle.sad.proofs.sad_blocks.of_bi.Tie as tie
 
 sad-block-requires : tie.Need-sad-block-requires
 sad-block-requires c κs = search needs

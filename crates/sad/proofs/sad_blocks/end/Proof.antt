@@ -6,10 +6,10 @@ use native.Mathlib.Omega.{arith}
 use borrow.Author.Tests.{le-leb, lt-leb}
 use Rattle.sad.proofs.Laws.{div-some, div-none}
 use borrow.Author.Needs.{needs}
-use Rattle.sad.proofs.sad.end.Statement.{statement}
-use Rattle.sad.proofs.sad.end.Tie as tie
-use Rattle.sad.proofs.sad.end.Reads as reads
-use Rattle.sad.proofs.sad.end.Lts as lts
+use Rattle.sad.proofs.sad_blocks.end.Statement.{statement}
+use Rattle.sad.proofs.sad_blocks.end.Tie as tie
+use Rattle.sad.proofs.sad_blocks.end.Reads as reads
+use Rattle.sad.proofs.sad_blocks.end.Lts as lts
 
 shr-if1 : tie.Need-shr-if1
 shr-if1 c = search needs

@@ -9,8 +9,8 @@ use Rattle.evc.specs.Differences.{difference, sadTotal}
 use Rattle.sad.specs.Rests.{strided, biRows, rest}
 use Rattle.sad.specs.Edges.{edged, AtEdges}
 use Rattle.sad.proofs.AtEdges.{as-bits, of-bits}
-use Rattle.sad.proofs.sad.bi_at_edges.Statement.{statement}
-use Rattle.sad.proofs.sad.bi_at_edges.Tie as tie
+use Rattle.sad.proofs.sad_edges.bi_at_edges.Statement.{statement}
+use Rattle.sad.proofs.sad_edges.bi_at_edges.Tie as tie
 
 slice-aggregate-bi-through : tie.Need-slice-aggregate-bi-through
 slice-aggregate-bi-through c = search needs

@@ -10,12 +10,12 @@ use Rattle.sad.proofs.Samples.{apart-le}
 use Rattle.sad.proofs.Cells.{compared-most}
 use Rattle.sad.proofs.Replies.{marked-rest}
 use borrow.Author.Needs.{needs}
-use Rattle.sad.proofs.sad.of_blocks.Statement.{statement}
-use Rattle.sad.proofs.sad.of_blocks.Tie as tie
-use Rattle.sad.proofs.sad.of_blocks.Reads as reads
-use Rattle.sad.proofs.sad.of_blocks.Lts as lts
+use Rattle.sad.proofs.sad_blocks.of_blocks.Statement.{statement}
+use Rattle.sad.proofs.sad_blocks.of_blocks.Tie as tie
+use Rattle.sad.proofs.sad_blocks.of_blocks.Reads as reads
+use Rattle.sad.proofs.sad_blocks.of_blocks.Lts as lts
 use Rattle.sad.proofs.blocks.sad_block.Reads as sad-block-reads
-use Rattle.sad.proofs.sad.end.Reads as end-reads
+use Rattle.sad.proofs.sad_blocks.end.Reads as end-reads
 
 sad-block-requires : tie.Need-sad-block-requires
 sad-block-requires c κs = search needs

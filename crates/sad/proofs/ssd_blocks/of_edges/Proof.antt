@@ -15,8 +15,8 @@ use Rattle.sad.specs.Rests.{rest}
 use Rattle.sad.specs.Edges.{edged, Plain}
 use Rattle.sad.proofs.Replies.{rest-alike, ssd-alike}
 use Rattle.sad.proofs.AtEdges.{as-bits, of-bits, is-plain, plain-alike, plain-inside}
-use Rattle.sad.proofs.ssd.of_edges.Statement.{statement}
-use Rattle.sad.proofs.ssd.of_edges.Tie as tie
+use Rattle.sad.proofs.ssd_blocks.of_edges.Statement.{statement}
+use Rattle.sad.proofs.ssd_blocks.of_edges.Tie as tie
 
 -- neither position is negative, and the blocks' last rows end inside their planes
 plain : (c : tie.Else1) → let a = c .before .before .before .before .args in Plain (a .x) (a .y)

@@ -7,10 +7,10 @@ use mir.Syntax.{w64}
 use mir.Facts.{toZ-pos}
 use Rattle.sad.proofs.Laws.{div-some, div-none}
 use borrow.Author.Needs.{needs}
-use Rattle.sad.proofs.ssd.end.Statement.{statement}
-use Rattle.sad.proofs.ssd.end.Tie as tie
-use Rattle.sad.proofs.ssd.end.Reads as reads
-use Rattle.sad.proofs.ssd.end.Lts as lts
+use Rattle.sad.proofs.ssd_blocks.end.Statement.{statement}
+use Rattle.sad.proofs.ssd_blocks.end.Tie as tie
+use Rattle.sad.proofs.ssd_blocks.end.Reads as reads
+use Rattle.sad.proofs.ssd_blocks.end.Lts as lts
 
 shr-if1 : tie.Need-shr-if1
 shr-if1 c = search needs

@@ -10,8 +10,8 @@ use Rattle.sad.specs.Rests.{strided}
 use Rattle.sad.specs.Edges.{edged, EdgesIn}
 use Rattle.sad.proofs.Replies.{Alike, rest-alike, ssd-alike}
 use Rattle.sad.proofs.AtEdges.{filled-in, filled-long, as-bits, of-bits}
-use Rattle.sad.proofs.ssd.through.Statement.{statement}
-use Rattle.sad.proofs.ssd.through.Tie as tie
+use Rattle.sad.proofs.ssd_blocks.through.Statement.{statement}
+use Rattle.sad.proofs.ssd_blocks.through.Tie as tie
 
 edge-block-requires : tie.Need-edge-block-requires
 edge-block-requires c κs = search needs

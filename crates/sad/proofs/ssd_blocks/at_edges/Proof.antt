@@ -10,8 +10,8 @@ use Rattle.evc.specs.Differences.{difference, ssdTotal}
 use Rattle.sad.specs.Rests.{rest}
 use Rattle.sad.specs.Edges.{edged, BothEdges}
 use Rattle.sad.proofs.AtEdges.{as-bits, of-bits}
-use Rattle.sad.proofs.ssd.at_edges.Statement.{statement}
-use Rattle.sad.proofs.ssd.at_edges.Tie as tie
+use Rattle.sad.proofs.ssd_blocks.at_edges.Statement.{statement}
+use Rattle.sad.proofs.ssd_blocks.at_edges.Tie as tie
 
 slice-aggregate-through : tie.Need-slice-aggregate-through
 slice-aggregate-through c = search needs

@@ -9,8 +9,8 @@ use Rattle.evc.specs.Differences.{difference, sadTotal}
 use Rattle.sad.specs.Rests.{strided, rest}
 use Rattle.sad.specs.Edges.{edged, AtEdges}
 use Rattle.sad.proofs.AtEdges.{as-bits, of-bits}
-use Rattle.sad.proofs.sad.at_edges.Statement.{statement}
-use Rattle.sad.proofs.sad.at_edges.Tie as tie
+use Rattle.sad.proofs.sad_edges.at_edges.Statement.{statement}
+use Rattle.sad.proofs.sad_edges.at_edges.Tie as tie
 
 slice-aggregate-through : tie.Need-slice-aggregate-through
 slice-aggregate-through c = search needs

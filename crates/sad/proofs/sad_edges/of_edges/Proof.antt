@@ -14,8 +14,8 @@ use Rattle.sad.specs.Rests.{strided, rest}
 use Rattle.sad.specs.Edges.{edged, Plain}
 use Rattle.sad.proofs.Replies.{alike, rest-alike, sad-alike}
 use Rattle.sad.proofs.AtEdges.{as-bits, of-bits, is-plain, plain-alike, plain-inside}
-use Rattle.sad.proofs.sad.of_edges.Statement.{statement}
-use Rattle.sad.proofs.sad.of_edges.Tie as tie
+use Rattle.sad.proofs.sad_edges.of_edges.Statement.{statement}
+use Rattle.sad.proofs.sad_edges.of_edges.Tie as tie
 
 -- neither position is negative, and the block's last row ends inside the plane
 plain : (c : tie.Else1) → let a = c .before .before .before .before .args in Plain (a .mv-x) (a .mv-y)

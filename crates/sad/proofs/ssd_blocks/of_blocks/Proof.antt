@@ -11,12 +11,12 @@ use Rattle.sad.proofs.Samples.{squared-le}
 use Rattle.sad.proofs.Cells.{compared-most}
 use Rattle.sad.proofs.Replies.{marked-rest}
 use borrow.Author.Needs.{needs}
-use Rattle.sad.proofs.ssd.of_blocks.Statement.{statement}
-use Rattle.sad.proofs.ssd.of_blocks.Tie as tie
-use Rattle.sad.proofs.ssd.of_blocks.Reads as reads
-use Rattle.sad.proofs.ssd.of_blocks.Lts as lts
+use Rattle.sad.proofs.ssd_blocks.of_blocks.Statement.{statement}
+use Rattle.sad.proofs.ssd_blocks.of_blocks.Tie as tie
+use Rattle.sad.proofs.ssd_blocks.of_blocks.Reads as reads
+use Rattle.sad.proofs.ssd_blocks.of_blocks.Lts as lts
 use Rattle.sad.proofs.blocks.ssd_block.Reads as ssd-block-reads
-use Rattle.sad.proofs.ssd.end.Reads as end-reads
+use Rattle.sad.proofs.ssd_blocks.end.Reads as end-reads
 
 sub-ssd-block : tie.Need-sub-ssd-block
 sub-ssd-block c = omega (arith, c .before .before .pre)
