@@ -10,7 +10,7 @@ ghost use Rattle.evc.specs.Calls.{satd16b};
 ghost use Rattle.sad.specs.Areas.{planeOf};
 ghost use Rattle.sad.specs.Totals.{TwoBlocks};
 ghost use Rattle.sad.specs.Small.{Tested, apartFrom};
-ghost use Rattle.sad.specs.Rests.{strided, rest};
+ghost use Rattle.sad.specs.Rests.{strided, satdLeft};
 use evc::Distortion;
 use evc::Refusal;
 
@@ -60,7 +60,7 @@ fn of_blocks(
 ) -> Distortion
     requires { ⌜ TwoBlocks w h (length (now a)) «a_at» «a_stride» (length (now b)) «b_at» «b_stride» ⌝ }
     requires { ⌜ (8 ≤ depth) × (depth ≤ 14) ⌝ }
-    ensures { λ r. ⌜ distortionReading r ≡ rest w h (strided (now (a .entry)) «a_at» «a_stride» depth) (strided (now (b .entry)) «b_at» «b_stride» depth) (tiles.satdTotal (tiles.tileSide w h) w h (difference (strided (now (a .entry)) «a_at» «a_stride» depth) (strided (now (b .entry)) «b_at» «b_stride» depth)) / 2 ^ (depth - 8)) ⌝ }
+    ensures { λ r. ⌜ distortionReading r ≡ satdLeft w h depth (strided (now (a .entry)) «a_at» «a_stride» depth) (strided (now (b .entry)) «b_at» «b_stride» depth) ⌝ }
 {
     let t = crate::blocks::sad_block(a, a_at, a_stride, b, b_at, b_stride, w, h);
     if t.any >> depth != 0 {
