@@ -1,0 +1,23 @@
+// The calls of the dequantizer, the stages, the job and the sub-block.
+use crate::answer;
+use crate::buffer;
+use crate::cursor::Cursor;
+use crate::cursor::is_good;
+use crate::number;
+use crate::out::Out;
+
+// How much of the output is used, and where reading ended: at a fault nothing was called.
+pub(crate) struct Said {
+    pub(crate) used: usize,
+    pub(crate) end: Cursor,
+}
+
+pub(crate) fn scale(line: &[u8], c: Cursor, out: &mut Out, used: usize) -> Said {
+    let qp = number::byte(line, c);
+    let end = number::end(line, qp.next);
+    if !is_good(end) {
+        return Said { used, end };
+    }
+    let n = answer::of_scale(out, used, table::scale(qp.value));
+    Said { used: n, end }
+}
