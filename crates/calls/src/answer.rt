@@ -4,6 +4,8 @@ use crate::out::byte;
 use crate::out::number;
 use crate::out::signed;
 use crate::out::text;
+use crate::sign::wide_16;
+use crate::sign::wide_32;
 use evc::Answer;
 use evc::Component;
 use evc::Distortion;
@@ -40,7 +42,7 @@ fn value(out: &mut Out, used: usize, v: i64) -> usize {
 pub(crate) fn of_scale(out: &mut Out, used: usize, a: Scale) -> usize {
     match a {
         Scale::Value(v) => {
-            let n = value(out, used, v as i64);
+            let n = value(out, used, wide_32(v));
             byte(out, n, b'\n')
         }
         Scale::Refused(r) => {
@@ -99,9 +101,8 @@ pub(crate) fn shorts(out: &mut Out, used: usize, s: &[i16]) -> usize {
     let mut n = text(out, used, b" |");
     let mut i = 0;
     while i < s.len() {
-        let v = s[i];
         n = byte(out, n, b' ');
-        n = signed(out, n, v as i64);
+        n = signed(out, n, wide_16(s[i]));
         i += 1;
     }
     byte(out, n, b'\n')
@@ -111,9 +112,8 @@ pub(crate) fn words(out: &mut Out, used: usize, s: &[i32]) -> usize {
     let mut n = text(out, used, b" |");
     let mut i = 0;
     while i < s.len() {
-        let v = s[i];
         n = byte(out, n, b' ');
-        n = signed(out, n, v as i64);
+        n = signed(out, n, wide_32(s[i]));
         i += 1;
     }
     byte(out, n, b'\n')

@@ -20,19 +20,19 @@ pub(crate) struct Count {
 }
 
 // A number, how often it stands from here on, and where reading goes on.
-struct Shorts {
+struct ShortRun {
     value: i16,
     times: usize,
     next: Cursor,
 }
 
-struct Words {
+struct WordRun {
     value: i32,
     times: usize,
     next: Cursor,
 }
 
-struct Samples {
+struct SampleRun {
     value: u16,
     times: usize,
     next: Cursor,
@@ -65,7 +65,7 @@ fn times_at(line: &[u8], c: Cursor, most: usize) -> Count {
     let t = token_at(line, c, Kind::Run);
     let next = t.next;
     let at = next.at;
-    if is_good(next) && at < line.len() && line[at] == b'*' {
+    if at < line.len() && line[at] == b'*' && is_good(next) {
         let n = t.size as usize;
         if t.negative || n == 0 || most < n {
             return Count {
@@ -82,11 +82,11 @@ fn times_at(line: &[u8], c: Cursor, most: usize) -> Count {
 }
 
 // The next number of a buffer of which `left` are left: one that is being repeated, or the next item.
-fn next_short(line: &[u8], s: Shorts, left: usize) -> Shorts {
+fn next_short(line: &[u8], s: ShortRun, left: usize) -> ShortRun {
     let next = s.next;
     let times = s.times;
     if 1 < times {
-        return Shorts {
+        return ShortRun {
             value: s.value,
             times: times - 1,
             next,
@@ -95,7 +95,7 @@ fn next_short(line: &[u8], s: Shorts, left: usize) -> Shorts {
     let n = times_at(line, next, left);
     let r = short(line, n.next);
     let next = r.next;
-    Shorts {
+    ShortRun {
         value: r.value,
         times: n.value,
         next,
@@ -108,7 +108,7 @@ pub(crate) fn shorts(line: &[u8], c: Cursor, room: &mut [i16]) -> Count
     let n = length_at(line, c, room.len());
     let count = n.value;
     let next = n.next;
-    let mut s = Shorts {
+    let mut s = ShortRun {
         value: 0,
         times: 0,
         next,

@@ -90,17 +90,41 @@ pub(crate) fn of(name: &[u8]) -> Entry {
 
 fn distortion_form(out: &mut Out, used: usize, e: Entry) -> usize {
     match e {
-        Entry::Diff => text(out, used, b"diff WIDTH HEIGHT STRIDE X Y LOG2_W LOG2_H DEPTH ORG CUR DIFF"),
+        Entry::Diff => text(
+            out,
+            used,
+            b"diff WIDTH HEIGHT STRIDE X Y LOG2_W LOG2_H DEPTH ORG CUR DIFF",
+        ),
         Entry::Satd => text(out, used, b"satd WIDTH HEIGHT STRIDE X Y W H DEPTH ORG CUR"),
-        Entry::Ssd16b => text(out, used, b"ssd_16b WIDTH HEIGHT STRIDE X Y LOG2_W LOG2_H DEPTH ORG CUR"),
+        Entry::Ssd16b => text(
+            out,
+            used,
+            b"ssd_16b WIDTH HEIGHT STRIDE X Y LOG2_W LOG2_H DEPTH ORG CUR",
+        ),
         Entry::Ssd16i => {
-            text(out, used, b"ssd_16i WIDTH1 HEIGHT1 STRIDE1 WIDTH2 HEIGHT2 STRIDE2 X Y LOG2_W LOG2_H DEPTH ONE TWO")
+            text(
+                out,
+                used,
+                b"ssd_16i WIDTH1 HEIGHT1 STRIDE1 WIDTH2 HEIGHT2 STRIDE2 X Y LOG2_W LOG2_H DEPTH ONE TWO",
+            )
         }
         Entry::Sad16b => {
-            text(out, used, b"sad_16b WIDTH HEIGHT STRIDE X Y REF_WIDTH REF_HEIGHT REF_STRIDE MV_X MV_Y W H DEPTH ORG REF")
+            text(
+                out,
+                used,
+                b"sad_16b WIDTH HEIGHT STRIDE X Y REF_WIDTH REF_HEIGHT REF_STRIDE MV_X MV_Y W H DEPTH ORG REF",
+            )
         }
-        Entry::SadBi16b => text(out, used, b"sad_bi_16b REF_WIDTH REF_HEIGHT REF_STRIDE MV_X MV_Y W H DEPTH BI REF"),
-        Entry::Sad16i => text(out, used, b"sad_16i WIDTH HEIGHT STRIDE X Y W H DEPTH ORG PRED"),
+        Entry::SadBi16b => text(
+            out,
+            used,
+            b"sad_bi_16b REF_WIDTH REF_HEIGHT REF_STRIDE MV_X MV_Y W H DEPTH BI REF",
+        ),
+        Entry::Sad16i => text(
+            out,
+            used,
+            b"sad_16i WIDTH HEIGHT STRIDE X Y W H DEPTH ORG PRED",
+        ),
         Entry::SadBi16i => text(out, used, b"sad_bi_16i W H DEPTH BI PRED"),
         _ => text(out, used, b"a call"),
     }
@@ -113,9 +137,17 @@ pub(crate) fn form(out: &mut Out, used: usize, e: Entry) -> usize {
         Entry::Dquant => text(out, used, b"dquant LOG2_W LOG2_H SCALE OFFSET SHIFT COEF"),
         Entry::Itxb0 => text(out, used, b"itxb0 LOG2_SIZE LOG2_LINE SRC DST"),
         Entry::Itxb1 => text(out, used, b"itxb1 LOG2_SIZE LOG2_LINE SHIFT SRC DST"),
-        Entry::Job => text(out, used, b"job START LOG2_W LOG2_H QP OFFSET DQ_SHIFT IT_SHIFT COEF"),
+        Entry::Job => text(
+            out,
+            used,
+            b"job START LOG2_W LOG2_H QP OFFSET DQ_SHIFT IT_SHIFT COEF",
+        ),
         Entry::SubBlock => {
-            text(out, used, b"sub_block LOG2_W LOG2_H OFFSET DQ_SHIFT IT_SHIFT FLAG_Y FLAG_U FLAG_V START_Y START_U START_V QP_Y QP_U QP_V COEF")
+            text(
+                out,
+                used,
+                b"sub_block LOG2_W LOG2_H OFFSET DQ_SHIFT IT_SHIFT FLAG_Y FLAG_U FLAG_V START_Y START_U START_V QP_Y QP_U QP_V COEF",
+            )
         }
         Entry::Help => text(out, used, b"help"),
         _ => distortion_form(out, used, e),

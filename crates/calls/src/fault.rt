@@ -22,6 +22,15 @@ fn range(out: &mut Out, used: usize, kind: Kind) -> usize {
     }
 }
 
+// Columns are counted from 1.
+fn column(at: usize) -> u64 {
+    if at < usize::MAX {
+        (at + 1) as u64
+    } else {
+        at as u64
+    }
+}
+
 fn what(out: &mut Out, used: usize, fault: Fault) -> usize {
     match fault {
         Fault::Nothing => used,
@@ -54,12 +63,18 @@ fn place(out: &mut Out, used: usize, name: &[u8], line: u64) -> usize {
 }
 
 // A line that is no call of the entry point `e`.
-pub(crate) fn malformed(out: &mut Out, used: usize, name: &[u8], line: u64, e: Entry, c: Cursor) -> usize {
-    let at = c.at;
+pub(crate) fn malformed(
+    out: &mut Out,
+    used: usize,
+    name: &[u8],
+    line: u64,
+    e: Entry,
+    c: Cursor,
+) -> usize {
     let fault = c.fault;
     let mut n = place(out, used, name, line);
     n = text(out, n, b", column ");
-    n = number(out, n, at as u64);
+    n = number(out, n, column(c.at));
     n = text(out, n, b": ");
     n = what(out, n, fault);
     if let Entry::Unknown = e {
@@ -74,8 +89,12 @@ pub(crate) fn malformed(out: &mut Out, used: usize, name: &[u8], line: u64, e: E
 pub(crate) fn long(out: &mut Out, used: usize, name: &[u8], line: u64, most: usize) -> usize {
     let mut n = place(out, used, name, line);
     n = text(out, n, b", column ");
-    n = number(out, n, most as u64);
-    n = text(out, n, b": the line goes on past this column, and is left out\n");
+    n = number(out, n, column(most));
+    n = text(
+        out,
+        n,
+        b": the line has no room from here on, and is left out\n",
+    );
     n
 }
 

@@ -31,7 +31,14 @@ fn call(line: &[u8], c: Cursor, e: Entry, shorts: &mut [i16], out: &mut Out, use
     }
 }
 
-pub(crate) fn answered(line: &[u8], name: &[u8], number: u64, shorts: &mut [i16], out: &mut Out, used: usize) -> usize {
+pub(crate) fn answered(
+    line: &[u8],
+    name: &[u8],
+    number: u64,
+    shorts: &mut [i16],
+    out: &mut Out,
+    used: usize,
+) -> usize {
     let from = seek(line, 0, false);
     if line.len() <= from {
         return used;

@@ -1,15 +1,22 @@
 // Replays calls.
+mod answer;
+mod buffer;
 mod cursor;
+mod entry;
+mod fault;
+mod input;
+mod line;
 mod number;
 mod out;
+mod sign;
 mod token;
+mod transforms;
+mod usage;
 
 fn main() {
     let mut out = [0u8; 65536];
-    let line = b"12 -4 zz";
-    let c = cursor::good(0);
-    let a = number::byte(line, c);
-    let b = number::short(line, a.next);
-    let n = out::signed(&mut out, 0, b.value as i64);
+    let mut shorts = [0i16; 16384];
+    let line = b"scale 12";
+    let n = line::answered(line, b"", 1, &mut shorts, &mut out, 0);
     out::flush(&out, n);
 }

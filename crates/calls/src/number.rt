@@ -4,6 +4,7 @@ use crate::cursor::Fault;
 use crate::cursor::Kind;
 use crate::cursor::is_good;
 use crate::cursor::out_of_range;
+use crate::sign::signed;
 use crate::token::seek;
 use crate::token::token_at;
 
@@ -57,7 +58,7 @@ pub(crate) fn size(line: &[u8], c: Cursor) -> SizeRead {
 pub(crate) fn byte(line: &[u8], c: Cursor) -> ByteRead {
     let t = token_at(line, c, Kind::Byte);
     let next = t.next;
-    if !t.negative && t.size <= 255 {
+    if t.size <= 255 && !t.negative {
         return ByteRead {
             value: t.size as u8,
             next,
@@ -73,7 +74,7 @@ pub(crate) fn byte(line: &[u8], c: Cursor) -> ByteRead {
 pub(crate) fn sample(line: &[u8], c: Cursor) -> SampleRead {
     let t = token_at(line, c, Kind::Sample);
     let next = t.next;
-    if !t.negative && t.size <= 65535 {
+    if t.size <= 65535 && !t.negative {
         return SampleRead {
             value: t.size as u16,
             next,
@@ -89,7 +90,7 @@ pub(crate) fn sample(line: &[u8], c: Cursor) -> SampleRead {
 pub(crate) fn flag(line: &[u8], c: Cursor) -> FlagRead {
     let t = token_at(line, c, Kind::Flag);
     let next = t.next;
-    if !t.negative && t.size <= 1 {
+    if t.size <= 1 && !t.negative {
         return FlagRead {
             value: t.size == 1,
             next,
@@ -105,15 +106,15 @@ pub(crate) fn flag(line: &[u8], c: Cursor) -> FlagRead {
 pub(crate) fn word(line: &[u8], c: Cursor) -> WordRead {
     let t = token_at(line, c, Kind::Word);
     let next = t.next;
-    if t.negative && t.size <= 2147483648 {
+    if t.size <= 2147483648 && t.negative {
         return WordRead {
-            value: (0 - t.size as i64) as i32,
+            value: integers::clip32(signed(true, t.size)),
             next,
         };
     }
-    if !t.negative && t.size <= 2147483647 {
+    if t.size <= 2147483647 && !t.negative {
         return WordRead {
-            value: t.size as i32,
+            value: integers::clip32(signed(false, t.size)),
             next,
         };
     }
@@ -127,15 +128,15 @@ pub(crate) fn word(line: &[u8], c: Cursor) -> WordRead {
 pub(crate) fn short(line: &[u8], c: Cursor) -> ShortRead {
     let t = token_at(line, c, Kind::Short);
     let next = t.next;
-    if t.negative && t.size <= 32768 {
+    if t.size <= 32768 && t.negative {
         return ShortRead {
-            value: (0 - t.size as i64) as i16,
+            value: integers::clip16(signed(true, t.size)),
             next,
         };
     }
-    if !t.negative && t.size <= 32767 {
+    if t.size <= 32767 && !t.negative {
         return ShortRead {
-            value: t.size as i16,
+            value: integers::clip16(signed(false, t.size)),
             next,
         };
     }

@@ -1,5 +1,6 @@
 // Standard output through a buffer of fixed size. Each function takes how much of the buffer is used and answers how much is used then; a full
 // buffer is written out, so that nothing is ever left out.
+use crate::sign::magnitude;
 use libc::STDOUT_FILENO;
 
 pub(crate) type Out = [u8; 65536];
@@ -45,9 +46,6 @@ pub(crate) fn number(out: &mut Out, used: usize, v: u64) -> usize {
 }
 
 pub(crate) fn signed(out: &mut Out, used: usize, v: i64) -> usize {
-    if v < 0 {
-        let n = byte(out, used, b'-');
-        return number(out, n, (-1 - v) as u64 + 1);
-    }
-    number(out, used, v as u64)
+    let n = if v < 0 { byte(out, used, b'-') } else { used };
+    number(out, n, magnitude(v))
 }

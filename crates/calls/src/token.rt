@@ -1,4 +1,6 @@
 // One number as it stands in the text: blanks, a sign, digits, and then a blank, a star or the line's end.
+ghost use lib.ListN.{length};
+ghost use Rattle.calls.specs.Window.{Sought};
 use crate::cursor::Cursor;
 use crate::cursor::Fault;
 use crate::cursor::Kind;
@@ -30,7 +32,9 @@ pub(crate) fn byte_at(line: &[u8], at: usize) -> u8 {
 }
 
 // The first place from `at` on that is a blank, or that is none, as asked; or the line's end.
-pub(crate) fn seek(line: &[u8], at: usize, blank: bool) -> usize {
+pub(crate) fn seek(line: &[u8], at: usize, blank: bool) -> usize
+    ensures { λ r. ⌜ Sought at r (length (now (line .entry))) ⌝ }
+{
     let mut i = at;
     while i < line.len() {
         if is_blank(line[i]) == blank {
@@ -41,25 +45,50 @@ pub(crate) fn seek(line: &[u8], at: usize, blank: bool) -> usize {
     i
 }
 
+// The value of a digit, and 10 of any other byte.
+fn digit(b: u8) -> u64 {
+    if b'0' <= b && b <= b'9' {
+        return (b - b'0') as u64;
+    }
+    10
+}
+
+enum Longer {
+    Fits(u64),
+    Large,
+}
+
+// A number with one digit more, where 64 bits hold it.
+fn with_digit(size: u64, d: u64) -> Longer {
+    if size < 1844674407370955161 {
+        if d < 10 {
+            return Longer::Fits(size * 10 + d);
+        }
+    } else if size == 1844674407370955161 {
+        if d < 6 {
+            return Longer::Fits(18446744073709551610 + d);
+        }
+    }
+    Longer::Large
+}
+
 // The digits from `at` on. `large`: the number has more than 64 bits.
 fn digits_at(line: &[u8], at: usize) -> Digits {
     let mut size: u64 = 0;
     let mut large = false;
     let mut i = at;
     while i < line.len() {
-        let b = line[i];
-        if b < b'0' || b'9' < b {
-            return Digits {
-                size,
-                stop: i,
-                large,
-            };
+        let d = digit(line[i]);
+        if 9 < d {
+            break;
         }
-        let d = (b - b'0') as u64;
-        if size <= (u64::MAX - d) / 10 {
-            size = size * 10 + d;
-        } else {
-            large = true;
+        match with_digit(size, d) {
+            Longer::Fits(n) => {
+                size = n;
+            }
+            Longer::Large => {
+                large = true;
+            }
         }
         i += 1;
     }
