@@ -123,3 +123,87 @@ pub(crate) fn shorts(line: &[u8], c: Cursor, room: &mut [i16]) -> Count
     let next = s.next;
     Count { value: count, next }
 }
+
+fn next_word(line: &[u8], s: WordRun, left: usize) -> WordRun {
+    let next = s.next;
+    let times = s.times;
+    if 1 < times {
+        return WordRun {
+            value: s.value,
+            times: times - 1,
+            next,
+        };
+    }
+    let n = times_at(line, next, left);
+    let r = word(line, n.next);
+    let next = r.next;
+    WordRun {
+        value: r.value,
+        times: n.value,
+        next,
+    }
+}
+
+pub(crate) fn words(line: &[u8], c: Cursor, room: &mut [i32]) -> Count
+    ensures { λ r. ⌜ r .value ≤ length (now (room .exit)) ⌝ }
+{
+    let n = length_at(line, c, room.len());
+    let count = n.value;
+    let next = n.next;
+    let mut s = WordRun {
+        value: 0,
+        times: 0,
+        next,
+    };
+    let mut i = 0;
+    while i < count {
+        s = next_word(line, s, count - i);
+        let v = s.value;
+        room[i] = v;
+        i += 1;
+    }
+    let next = s.next;
+    Count { value: count, next }
+}
+
+fn next_sample(line: &[u8], s: SampleRun, left: usize) -> SampleRun {
+    let next = s.next;
+    let times = s.times;
+    if 1 < times {
+        return SampleRun {
+            value: s.value,
+            times: times - 1,
+            next,
+        };
+    }
+    let n = times_at(line, next, left);
+    let r = sample(line, n.next);
+    let next = r.next;
+    SampleRun {
+        value: r.value,
+        times: n.value,
+        next,
+    }
+}
+
+pub(crate) fn samples(line: &[u8], c: Cursor, room: &mut [u16]) -> Count
+    ensures { λ r. ⌜ r .value ≤ length (now (room .exit)) ⌝ }
+{
+    let n = length_at(line, c, room.len());
+    let count = n.value;
+    let next = n.next;
+    let mut s = SampleRun {
+        value: 0,
+        times: 0,
+        next,
+    };
+    let mut i = 0;
+    while i < count {
+        s = next_sample(line, s, count - i);
+        let v = s.value;
+        room[i] = v;
+        i += 1;
+    }
+    let next = s.next;
+    Count { value: count, next }
+}

@@ -14,9 +14,20 @@ use crate::transforms::Said;
 use crate::usage;
 
 // Calls the entry point `e` with what stands in the line from `c` on.
-fn call(line: &[u8], c: Cursor, e: Entry, shorts: &mut [i16], out: &mut Out, used: usize) -> Said {
+fn call(
+    line: &[u8],
+    c: Cursor,
+    e: Entry,
+    shorts: &mut [i16],
+    words: &mut [i32],
+    one: &mut [u16],
+    two: &mut [u16],
+    out: &mut Out,
+    used: usize,
+) -> Said {
     match e {
         Entry::Scale => transforms::scale(line, c, out, used),
+        Entry::Dquant => transforms::dquant(line, c, shorts, out, used),
         Entry::Help => Said {
             used: usage::usage(out, used),
             end: c,
@@ -31,11 +42,15 @@ fn call(line: &[u8], c: Cursor, e: Entry, shorts: &mut [i16], out: &mut Out, use
     }
 }
 
+// Answers a line: a comment is repeated, an empty line is passed over, and whatever else is a call or is told to be none.
 pub(crate) fn answered(
     line: &[u8],
     name: &[u8],
     number: u64,
     shorts: &mut [i16],
+    words: &mut [i32],
+    one: &mut [u16],
+    two: &mut [u16],
     out: &mut Out,
     used: usize,
 ) -> usize {
@@ -49,7 +64,7 @@ pub(crate) fn answered(
     }
     let stop = seek(line, from, true);
     let e = entry::of(&line[from..stop]);
-    let said = call(line, good(stop), e, shorts, out, used);
+    let said = call(line, good(stop), e, shorts, words, one, two, out, used);
     let end = said.end;
     let n = said.used;
     if is_good(end) {

@@ -13,10 +13,86 @@ mod token;
 mod transforms;
 mod usage;
 
+use libc::STDIN_FILENO;
+
+// Room for a line, and for a call's buffers.
+type Text = [u8; 524288];
+
+type Shorts = [i16; 16384];
+
+type Words = [i32; 16384];
+
+type Samples = [u16; 16384];
+
+// Replays the file that an argument names.
+fn file(
+    i: usize,
+    text: &mut Text,
+    shorts: &mut Shorts,
+    words: &mut Words,
+    one: &mut Samples,
+    two: &mut Samples,
+    out: &mut out::Out,
+) {
+    let mut path = io::buffer();
+    let n = os::arg(i, &mut path);
+    if os::errno() != 0 {
+        os::fail(b"an argument");
+        return;
+    }
+    let fd = os::open_read(&path[0..n]);
+    if fd < 0 {
+        os::fail(&path[0..n]);
+        let used = fault::unread(out, 0, &path[0..n]);
+        out::flush(out, used);
+        return;
+    }
+    input::replay(fd, &path[0..n], text, shorts, words, one, two, out);
+    libc::close(fd);
+}
+
+fn files(
+    text: &mut Text,
+    shorts: &mut Shorts,
+    words: &mut Words,
+    one: &mut Samples,
+    two: &mut Samples,
+    out: &mut out::Out,
+) {
+    let count = os::arg_count();
+    let mut i = 1;
+    while i < count {
+        file(i, text, shorts, words, one, two, out);
+        i += 1;
+    }
+}
+
 fn main() {
-    let mut out = [0u8; 65536];
+    let mut text = [0u8; 524288];
     let mut shorts = [0i16; 16384];
-    let line = b"scale 12";
-    let n = line::answered(line, b"", 1, &mut shorts, &mut out, 0);
-    out::flush(&out, n);
+    let mut words = [0i32; 16384];
+    let mut one = [0u16; 16384];
+    let mut two = [0u16; 16384];
+    let mut out = [0u8; 65536];
+    if os::arg_count() < 2 {
+        input::replay(
+            STDIN_FILENO,
+            b"",
+            &mut text,
+            &mut shorts,
+            &mut words,
+            &mut one,
+            &mut two,
+            &mut out,
+        );
+    } else {
+        files(
+            &mut text,
+            &mut shorts,
+            &mut words,
+            &mut one,
+            &mut two,
+            &mut out,
+        );
+    }
 }

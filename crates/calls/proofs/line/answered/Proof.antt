@@ -48,14 +48,32 @@ is-good-requires c κs = search needs
 same-length : tie.Need-same-length
 same-length c = search needs
 
+same-length-2 : tie.Need-same-length-2
+same-length-2 c = search needs
+
+same-length-3 : tie.Need-same-length-3
+same-length-3 c = search needs
+
+same-length-4 : tie.Need-same-length-4
+same-length-4 c = search needs
+
 returns-3 : tie.Need-returns-3
 returns-3 c = search needs
 
 malformed-requires : tie.Need-malformed-requires
 malformed-requires c κs = search needs
 
-same-length-2 : tie.Need-same-length-2
-same-length-2 c = search needs
+same-length-5 : tie.Need-same-length-5
+same-length-5 c = search needs
+
+same-length-6 : tie.Need-same-length-6
+same-length-6 c = search needs
+
+same-length-7 : tie.Need-same-length-7
+same-length-7 c = search needs
+
+same-length-8 : tie.Need-same-length-8
+same-length-8 c = search needs
 
 returns-4 : tie.Need-returns-4
 returns-4 c = search needs
@@ -79,7 +97,13 @@ answered-spec =
     call-requires
     is-good-requires
     same-length
+    same-length-2
+    same-length-3
+    same-length-4
     returns-3
     malformed-requires
-    same-length-2
+    same-length-5
+    same-length-6
+    same-length-7
+    same-length-8
     returns-4)
