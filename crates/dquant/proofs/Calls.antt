@@ -1,29 +1,14 @@
--- What a caller of `evc_dquant` cites: the bounds of an accepted call, and a call on exactly its area. Assumes nothing.
+-- What a caller of `evc_dquant` cites: a call on exactly its area. Assumes nothing.
 use Prim.Native.Nat.{ℕ, _≤_}
 use native.Mathlib.Omega.{arith}
 use mathlib.Core.Path.{_≡_}
 use mathlib.Core.List.{List, append-nil, map}
-use borrow.Author.Tests.{ltb-false}
 use lib.IntN.{ℤ}
 use lib.ListN.{length}
 use lib.Seq.{take-length, drop-length}
 use Rattle.evc.specs.Tests.{samplesOf}
 use Rattle.evc.specs.Dequantizer.{dequantized, dquantTests, dquantNumber, dquantExit}
-use Rattle.evc.proofs.Tests.{unbroken, first-none}
-use Rattle.dquant.proofs.Laws.{tested}
-
--- what an accepted call has been tested for
-pub record Bounds (n logw logh shift : ℕ) : Type 0 where
-  pub width : logw ≤ 6
-  pub height : logh ≤ 6
-  pub shifted : shift ≤ 31
-  pub area : samplesOf logw logh ≤ n
-
-pub dquant-bounds : (n logw logh shift : ℕ) → dquantNumber n logw logh shift ≡ 0 → Bounds n logw logh shift
-unfolding dquantNumber
-dquant-bounds n logw logh shift e =
-    let u = unbroken (dquantTests n logw logh shift) e in
-    record { width = ltb-false _ _ (u .0); height = ltb-false _ _ (u .1 .0); shifted = ltb-false _ _ (u .1 .1 .0); area = ltb-false _ _ (u .1 .1 .1 .0) }
+use Rattle.evc.proofs.Tests.{first-none, tested}
 
 -- a buffer of exactly the area's samples: the call is accepted, and each coefficient is dequantized
 pub dquant-whole : (logw logh : ℕ) (by offset : ℤ) (shift : ℕ) (l : List ℤ) → logw ≤ 6 → logh ≤ 6 → shift ≤ 31 → length l ≡ samplesOf logw logh

@@ -1,3 +1,2 @@
--- The laws that the proofs of this crate share, and those that its callers cite.
-pub mod Laws
+-- The laws that callers of the dequantizer cite.
 pub mod Calls

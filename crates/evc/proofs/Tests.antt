@@ -1,13 +1,14 @@
--- Laws of a list of tests: what an accepted call knows, test by test (`unbroken`), and back (`first-none`); a number between
--- two limits; laws of a call's reply.
+-- Laws of a list of tests: what an accepted call knows, test by test (`unbroken`), and back (`first-none`); the same of a call
+-- whose code tests by an if-chain (`refused-at`, `accepted-end`); a number between two limits; laws of a call's reply.
 -- Assumes nothing.
 use Prim.Native.Nat.{ℕ, zero, suc, _≤_}
 use native.Mathlib.Omega.{arith}
-use mathlib.Core.Path.{_≡_, refl, ap}
+use mathlib.Core.Path.{_≡_, refl, sym, ap}
 use mathlib.Core.Bool.{Bool, true, false, cond}
 use mathlib.Core.List.{List, [], _∷_}
 use lib.Dec.{ltb}
-use borrow.Author.Tests.{ltb-false, le-ltb}
+use borrow.Author.Tests.{ltb-false, lt-ltb, le-ltb}
+use Rattle.order.specs.Jobs.{ifAccepted}
 use Rattle.order.proofs.Tests.{or-neither}
 use Rattle.evc.specs.declared.Refusal.{Refusal}
 use Rattle.evc.specs.declared.Refusal.the-variants.{Size, Qp, Shift, Depth, Area, Overlap, Sample}
@@ -40,6 +41,36 @@ unbroken (t ∷ ts) e = go (t .broken) refl (unbroken ts) e
 pub first-none : (ts : List Test) → Unbroken ts → first ts ≡ 0
 first-none [] u = refl
 first-none (t ∷ ts) u = rw (u .0) (first-none ts (u .1))
+
+-- ---- an if-chain of refusals: the first k tests are not broken, and the next is
+abbrev pub BrokenAt : List Test → ℕ → Type 0
+BrokenAt [] k = ⊥
+BrokenAt (t ∷ ts) zero = t .broken ≡ true
+BrokenAt (t ∷ ts) (suc k) = (t .broken ≡ false) × BrokenAt ts k
+
+abbrev pub refusalAt : List Test → ℕ → Refusal
+refusalAt [] k = Size
+refusalAt (t ∷ ts) zero = t .refusal
+refusalAt (t ∷ ts) (suc k) = refusalAt ts k
+
+pub first-at : (ts : List Test) (k : ℕ) → BrokenAt ts k → number (refusalAt ts k) ≡ first ts
+first-at [] k b = absurd b
+first-at (t ∷ ts) zero b = rw b
+first-at (t ∷ ts) (suc k) b = rw (b .0) (first-at ts k (b .1))
+
+-- what a call that answers a number and works on a buffer shows at such a return, and at its end: its number, and what it leaves
+unchanged : {X : Type 0} (r : Refusal) (n : ℕ) (x y : X) → number r ≡ n → y ≡ ifAccepted n x y
+unchanged r zero x y e = absurd (omega (arith, number-some r))
+unchanged r (suc n) x y e = refl
+
+pub refused-at : {X : Type 0} (ts : List Test) (k : ℕ) (x y : X) → BrokenAt ts k → (number (refusalAt ts k) ≡ first ts) × (y ≡ ifAccepted (first ts) x y)
+refused-at ts k x y b = (first-at ts k b, unchanged (refusalAt ts k) (first ts) x y (first-at ts k b))
+
+pub accepted-end : {X : Type 0} (ts : List Test) (x y z : X) → Unbroken ts → z ≡ x → (0 ≡ first ts) × (z ≡ ifAccepted (first ts) x y)
+accepted-end ts x y z u p = let e = first-none ts u in (sym e, rw e p)
+
+-- by which `search tested` proves `BrokenAt` and `Unbroken` from the facts that the branches leave
+pub ruleset tested = (lt-ltb, le-ltb)
 
 -- ---- a number between two limits
 pub outside-no : (lo hi x : ℕ) → outside lo hi x ≡ false → (lo ≤ x) × (x ≤ hi)

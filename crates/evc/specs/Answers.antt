@@ -40,6 +40,11 @@ abbrev pub replyNumber : {A : Type 0} → Reply A → ℕ
 replyNumber (value v) = 0
 replyNumber (refused n) = n
 
+-- and its value: where there is none, what stood there before
+abbrev pub valueOr : {A : Type 0} → Reply A → A → A
+valueOr (value v) d = v
+valueOr (refused n) d = d
+
 abbrev pub scaleReading : Scale → Reply ℤ
 scaleReading (scaled.Value v) = value v
 scaleReading (scaled.Refused r) = refused (number r)

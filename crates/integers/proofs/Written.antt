@@ -2,7 +2,7 @@
 -- place leaves. First tab, then written: its length and entries, then its steps as a loop's proof has them (`cur` is the list that the
 -- invariant speaks of). Last two helpers for lists of known length and for grids. Assumes nothing.
 use mathlib.Core.Path.{_≡_, refl, sym, ap, _∙_}
-use mathlib.Core.List.{List, [], _∷_, _++_}
+use mathlib.Core.List.{List, [], _∷_, _++_, map}
 use Prim.Native.Nat.{ℕ, zero, suc, _+_, _*_, _/_, _%_, _≤_, _<_}
 use native.Mathlib.Nat.{not-suc-le-zero, le-of-suc-le-suc}
 use native.Mathlib.Omega.{arith}
@@ -111,3 +111,9 @@ p ∷≡ q = λ i. p i ∷ q i
 -- a place of a grid, row after row, by its row and its column
 pub grid-at : {A : Type 0} (f : ℕ → ℕ → A) (j n size : ℕ) → n < size → f ((j * size + n) / size) ((j * size + n) % size) ≡ f j n
 grid-at f j n size h = rw (digits-div j h, digits-mod j h)
+
+-- a loop that replaces each entry x by f x, at its end
+pub written-map : {A : Type 0} (f : A → A) (l : List A) (d : A) → written (length l) (λ i. f (getD l i d)) l ≡ map f l
+unfolding written tab
+written-map f [] d = refl
+written-map {A} f (x ∷ xs) d = ap {B = List A} (λ r. f x ∷ r) (written-map f xs d)

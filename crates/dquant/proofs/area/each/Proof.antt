@@ -9,9 +9,8 @@ use mir.Val.{toZ, ofZ}
 use mir.Facts.{toZ-ofZ}
 use Rattle.integers.specs.Lists.{written}
 use Rattle.integers.proofs.Bits.{back}
-use Rattle.integers.proofs.Written.{written-none, written-step, written-read}
+use Rattle.integers.proofs.Written.{written-none, written-step, written-read, written-map}
 use Rattle.evc.specs.Dequantizer.{dequantized}
-use Rattle.dquant.proofs.Laws.{written-map}
 use Rattle.dquant.proofs.area.each.Statement.{statement}
 use Rattle.dquant.proofs.area.each.Tie as tie
 

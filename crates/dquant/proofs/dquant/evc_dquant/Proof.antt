@@ -11,7 +11,7 @@ use mir.Facts.{toZ-ofZ}
 use Rattle.integers.proofs.Bits.{one-shl}
 use Rattle.evc.specs.Tests.{Test, samplesOf}
 use Rattle.evc.specs.Dequantizer.{dquantTests, dquantNumber, dquantExit}
-use Rattle.dquant.proofs.Laws.{refused-at, accepted, tested}
+use Rattle.evc.proofs.Tests.{refused-at, accepted-end, tested}
 use Rattle.dquant.proofs.dquant.evc_dquant.Statement.{statement}
 use Rattle.dquant.proofs.dquant.evc_dquant.Tie as tie
 
@@ -67,7 +67,7 @@ returns-5 c =
     let s = start b .fits .scale in
     let o = start b .fits .offset in
     let h = rw (samples b) at (c .before .before .before .if4 .left) in
-    accepted (tests (start b)) _ _ _ (search tested) (rw (samples b, simp toZ-ofZ at (rw (samples b) at (c .before .each .ensures))))
+    accepted-end (tests (start b)) _ _ _ (search tested) (rw (samples b, simp toZ-ofZ at (rw (samples b) at (c .before .each .ensures))))
 
 pub evc-dquant-spec : {M : Type 1} → statement M
 evc-dquant-spec =

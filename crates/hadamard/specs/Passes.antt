@@ -1,0 +1,47 @@
+-- The passes of a tile, as the contracts of src/had_8x8.rt and src/had_4x4.rt cite them; of any side n. A block is the list of its rows. A
+-- tile's coefficients and its number are evc's (specs/Tiles.antt). Assumes nothing.
+use mathlib.Core.Path.{_≡_}
+use Prim.Native.Nat.{ℕ, _≤_}
+use mathlib.Core.List.{List, []}
+use lib.ListN.{getD}
+use lib.IntN.{ℤ, pos, _*ℤ_, natAbs}
+use Rattle.integers.specs.Lists.{tab}
+use Rattle.integers.specs.Sum.{sumZ, sumN}
+use Rattle.evc.specs.Tiles.{sign}
+
+-- place i of a row; row j, column i of a block
+abbrev pub place : List ℤ → ℕ → ℤ
+place x i = getD x i (pos 0)
+
+abbrev pub entry : List (List ℤ) → ℕ → ℕ → ℤ
+entry m j i = place (getD m j []) i
+
+-- no number of a row, or of a block, is above B in size
+abbrev pub RowWithin : ℕ → List ℤ → Type 0
+RowWithin B x = (i : ℕ) → natAbs (place x i) ≤ B
+
+abbrev pub BlockWithin : ℕ → List (List ℤ) → Type 0
+BlockWithin B m = (j : ℕ) → RowWithin B (getD m j [])
+
+-- coefficient b of a line x, and the list of all of them
+unfoldable pub line : ℕ → (ℕ → ℤ) → ℕ → ℤ
+line n x b = sumZ n (λ i. x i *ℤ sign b i)
+
+unfoldable pub wholeLine : ℕ → List ℤ → List ℤ
+wholeLine n x = tab n (line n (place x))
+
+-- one pass: each row becomes its coefficients, and the block is turned: row b holds coefficient b of every row
+unfoldable pub passed : ℕ → List (List ℤ) → List (List ℤ)
+passed n m = tab n (λ b. tab n (λ j. line n (entry m j) b))
+
+-- r is what a pass makes of m, and within B
+pub record Passed (n B : ℕ) (m r : List (List ℤ)) : Type 0 where
+  pub is : r ≡ passed n m
+  pub within : BlockWithin B r
+
+-- the sizes of a row's numbers, and of a block's, added
+unfoldable pub rowSizes : ℕ → List ℤ → ℕ
+rowSizes n x = sumN n (λ i. natAbs (place x i))
+
+unfoldable pub blockSizes : ℕ → List (List ℤ) → ℕ
+blockSizes n m = sumN n (λ j. rowSizes n (getD m j []))

@@ -1,0 +1,145 @@
+// `evc_had_8x8`, after the Rust's function of that name. Document 01, "Distortion".
+// Differs from the Rust in: the differences are handed in. A pass also turns the block, so that the column pass finds the columns as rows and
+// is the same step. All coefficients' sizes are added; then the DC's is taken out and a quarter of it put back.
+ghost use mathlib.Core.Path.{_≡_};
+ghost use Rattle.evc.specs.Tiles.{tileNumber};
+ghost use Rattle.hadamard.specs.Passes.{entry, RowWithin, BlockWithin, Passed, wholeLine, passed, rowSizes, blockSizes};
+
+// The eight coefficients of a line, in three steps of butterflies.
+fn line(x: [i32; 8]) -> [i32; 8]
+    requires { ⌜ RowWithin 262144 x ⌝ }
+    ensures { λ r. ⌜ r ≡ wholeLine 8 x ⌝ }
+{
+    let x0 = x[0];
+    let x1 = x[1];
+    let x2 = x[2];
+    let x3 = x[3];
+    let x4 = x[4];
+    let x5 = x[5];
+    let x6 = x[6];
+    let x7 = x[7];
+    let a0 = x0 + x4;
+    let a1 = x1 + x5;
+    let a2 = x2 + x6;
+    let a3 = x3 + x7;
+    let a4 = x0 - x4;
+    let a5 = x1 - x5;
+    let a6 = x2 - x6;
+    let a7 = x3 - x7;
+    let b0 = a0 + a2;
+    let b1 = a1 + a3;
+    let b2 = a0 - a2;
+    let b3 = a1 - a3;
+    let b4 = a4 + a6;
+    let b5 = a5 + a7;
+    let b6 = a4 - a6;
+    let b7 = a5 - a7;
+    [
+        b0 + b1,
+        b0 - b1,
+        b2 + b3,
+        b2 - b3,
+        b4 + b5,
+        b4 - b5,
+        b6 + b7,
+        b6 - b7,
+    ]
+}
+
+// One pass. Row b of the result holds coefficient b of every row, in the order of the rows.
+fn pass(m: [[i32; 8]; 8]) -> [[i32; 8]; 8]
+    requires { ⌜ BlockWithin 262144 m ⌝ }
+    ensures { λ r. ⌜ r ≡ passed 8 m ⌝ }
+{
+    let mut out = [[0i32; 8]; 8];
+    for j in 0..8 {
+        let x = m[j];
+        let c = line(x);
+        out[0][j] = c[0];
+        out[1][j] = c[1];
+        out[2][j] = c[2];
+        out[3][j] = c[3];
+        out[4][j] = c[4];
+        out[5][j] = c[5];
+        out[6][j] = c[6];
+        out[7][j] = c[7];
+    }
+    out
+}
+
+// The row pass. A difference needs 16 bits, and a sum of eight of them 3 more.
+fn row_pass(diff: [[i32; 8]; 8]) -> [[i32; 8]; 8]
+    requires { ⌜ BlockWithin 32768 diff ⌝ }
+    ensures { λ r. ⌜ Passed 8 262144 diff r ⌝ }
+{
+    pass(diff)
+}
+
+// The column pass takes on what the row pass made: row b of it is column b of the tile.
+fn column_pass(m: [[i32; 8]; 8]) -> [[i32; 8]; 8]
+    requires { ⌜ BlockWithin 262144 m ⌝ }
+    ensures { λ r. ⌜ Passed 8 2097152 m r ⌝ }
+{
+    pass(m)
+}
+
+// The same numbers, wider: a row, and the block.
+fn widened_row(x: [i16; 8]) -> [i32; 8]
+    ensures { λ r. ⌜ r ≡ x ⌝ }
+{
+    let mut out = [0i32; 8];
+    for i in 0..8 {
+        out[i] = x[i] as i32;
+    }
+    out
+}
+
+fn widened(diff: [[i16; 8]; 8]) -> [[i32; 8]; 8]
+    ensures { λ r. ⌜ r ≡ diff ⌝ }
+{
+    let mut out = [[0i32; 8]; 8];
+    for j in 0..8 {
+        let x = diff[j];
+        let r = widened_row(x);
+        out[j] = r;
+    }
+    out
+}
+
+// The sizes of a row, and of the block, added.
+fn row_sum(x: [i32; 8]) -> u32
+    requires { ⌜ RowWithin 2097152 x ⌝ }
+    ensures { λ s. ⌜ s ≡ rowSizes 8 x ⌝ }
+{
+    let mut s: u32 = 0;
+    for i in 0..8 {
+        let v = x[i];
+        s += integers::abs_i32(v);
+    }
+    s
+}
+
+fn sum(m: [[i32; 8]; 8]) -> u32
+    requires { ⌜ BlockWithin 2097152 m ⌝ }
+    ensures { λ s. ⌜ s ≡ blockSizes 8 m ⌝ }
+{
+    let mut s: u32 = 0;
+    for j in 0..8 {
+        let x = m[j];
+        s += row_sum(x);
+    }
+    s
+}
+
+// The number of an 8 by 8 tile, from its differences, row after row.
+pub fn evc_had_8x8(diff: [[i16; 8]; 8]) -> u32
+    ensures { λ r. ⌜ r ≡ tileNumber 8 (entry diff) ⌝ }
+{
+    let wide = widened(diff);
+    let m = row_pass(wide);
+    let c = column_pass(m);
+    let all = sum(c);
+    let v = c[0][0];
+    let dc = integers::abs_i32(v);
+    (all - dc + dc / 4 + 2) / 4
+}

@@ -1,0 +1,120 @@
+// Mutants of the expected side. Each is a tempting way to be wrong; the library's answers are held against it, and it must be caught: on some case the
+// two differ. A mutant that no case catches says that the cases are too weak.
+//   twists       a wrong definition, on accepted calls
+//   swapped      width and height exchanged, on accepted calls: the mutant may refuse, or accept and give another result
+//   tables       a wrong table of refusals, on all calls: a limit one off, or another order of the tests
+use crate::calls::*;
+use crate::definition::Twist;
+use crate::expected;
+use crate::limits;
+use crate::random::Random;
+use crate::refusals;
+
+const MANY: u64 = 20_000;
+
+pub struct Mutant {
+    pub name: &'static str,
+    pub entry: Entry,
+    kind: Kind,
+    /// cases held against it, cases that caught it, and those of them where both accept and results differ
+    pub tried: u64,
+    pub caught: u64,
+    pub by_result: u64,
+}
+
+enum Kind {
+    Twist(Twist),
+    Swapped,
+    /// the table of refusals answers for this call instead
+    Limit(fn(&mut Call) -> bool),
+    /// the table of refusals answers another one of its broken tests
+    Order(fn(&[refusals::Broken]) -> Option<refusals::Broken>),
+}
+
+pub struct Mutants(pub Vec<Mutant>);
+
+impl Mutants {
+    /// Every mutant of these entry points.
+    pub fn of(asked: &[Entry]) -> Mutants {
+        use Entry::*;
+        let mut all = Vec::new();
+        let mut add = |name, entries: &[Entry], kind: fn() -> Kind| {
+            for &entry in entries.iter().filter(|e| asked.contains(e)) {
+                all.push(Mutant { name, entry, kind: kind(), tried: 0, caught: 0, by_result: 0 });
+            }
+        };
+        let sads = [Sad16b, SadBi16b, Sad16i, SadBi16i];
+        let compares = [Diff, Satd, Ssd16b, Ssd16i, Sad16b, SadBi16b, Sad16i, SadBi16i];
+        let planes = &compares[..7]; // those that read a plane
+        add("SSD: the total is shifted", &[Ssd16b, Ssd16i], || Kind::Twist(Twist::SsdTotal));
+        add("SAD: each sample is shifted", &sads, || Kind::Twist(Twist::SadPerSample));
+        add("negative quotients toward zero", &[Dquant, Itxb1, Job, SubBlock], || Kind::Twist(Twist::TowardZero));
+        add("1 is added for shift 0", &[Itxb1, Job, SubBlock], || Kind::Twist(Twist::OneAtShiftZero));
+        add("the output is left untransposed", &[Itxb0, Itxb1, Job, SubBlock], || Kind::Twist(Twist::Untransposed));
+        add("only the first tile's DC is divided", &[Satd], || Kind::Twist(Twist::FirstTileOnly));
+        add("a position is cut at 0 once a block", &[Ssd16i, Sad16b, SadBi16b], || Kind::Twist(Twist::CutOnce));
+        add("width and height are swapped", &[Itxb0, Itxb1, Job, SubBlock], || Kind::Swapped);
+        // (a dequantizer's area and a SAD of two packed blocks are the same either way)
+        add("width and height are swapped", planes, || Kind::Swapped);
+        add("qp 64 is allowed", &[Job, SubBlock], || Kind::Limit(limits::qp));
+        add("shift 32 is allowed", &[Dquant, Itxb1, Job, SubBlock], || Kind::Limit(limits::shift));
+        add("depth 7 is allowed", &compares, || Kind::Limit(limits::depth_7));
+        add("depth 15 is allowed", &compares, || Kind::Limit(limits::depth_15));
+        add("one place more of size is allowed", &ENTRIES, || Kind::Limit(limits::size));
+        add("one sample short is allowed", &ENTRIES, || Kind::Limit(limits::short));
+        add("one column past the edge is allowed", planes, || Kind::Limit(limits::column));
+        add("one row past the edge is allowed", planes, || Kind::Limit(limits::row));
+        add("a plane's side of 16,385 is allowed", planes, || Kind::Limit(limits::plane_side));
+        add("a stride one below the width is allowed", planes, || Kind::Limit(limits::stride));
+        add("starts and positions wrap at 2^64", &[Job, SubBlock, Diff, Satd, Ssd16b, Sad16b, Sad16i], || Kind::Limit(limits::wrap));
+        add("a sample of 2^depth is allowed", &compares, || Kind::Limit(limits::sample));
+        add("a bi-prediction value of -16,385 is allowed", &[SadBi16b, SadBi16i], || Kind::Limit(limits::bi));
+        add("the highest broken number is answered", &ENTRIES, || Kind::Order(|b| b.iter().copied().max_by_key(|b| b.number)));
+        add("the lowest number goes before the component", &[SubBlock], || Kind::Order(|b| b.iter().copied().min_by_key(|b| b.number)));
+        add("the last broken component is named", &[SubBlock], || Kind::Order(|b| b.last().copied()));
+        Mutants(all)
+    }
+
+    /// Holds the library's outcome of a call against every mutant of its entry point; once each has seen many calls, against one in eight.
+    pub fn hold(&mut self, call: &Call, got: &Outcome, broken: &[refusals::Broken], r: &mut Random) {
+        for m in self.0.iter_mut().filter(|m| m.entry == call.entry()) {
+            if m.tried >= MANY && !r.one_in(8) {
+                continue;
+            }
+            let same = match &m.kind {
+                Kind::Twist(twist) if got.number == 0 => {
+                    let same = expected::twisted(call, *twist) == *got;
+                    m.by_result += !same as u64;
+                    same
+                }
+                Kind::Swapped if got.number == 0 => {
+                    let mut swapped = call.clone();
+                    swap(&mut swapped);
+                    let wrong = expected::twisted(&swapped, Twist::None);
+                    m.by_result += (wrong.number == 0 && wrong != *got) as u64;
+                    wrong == *got
+                }
+                Kind::Limit(change) if got.number != 0 => {
+                    let mut changed = call.clone();
+                    if !change(&mut changed) {
+                        continue;
+                    }
+                    refusals::answer(&changed) == (got.number, got.component)
+                }
+                Kind::Order(other) if got.number != 0 => other(broken).is_some_and(|b| (b.number, b.component) == (got.number, got.component)),
+                _ => continue,
+            };
+            m.tried += 1;
+            m.caught += !same as u64;
+        }
+    }
+}
+
+fn swap(call: &mut Call) {
+    match call {
+        Call::Dquant { log2_w, log2_h, .. } | Call::SubBlock { log2_w, log2_h, .. } => std::mem::swap(log2_w, log2_h),
+        Call::Itxb0 { log2_size, log2_line, .. } | Call::Itxb1 { log2_size, log2_line, .. } => std::mem::swap(log2_size, log2_line),
+        Call::Job { job, .. } => std::mem::swap(&mut job.log2_w, &mut job.log2_h),
+        Call::Compare(c) => std::mem::swap(&mut c.w, &mut c.h),
+    }
+}
