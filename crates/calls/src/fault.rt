@@ -3,7 +3,8 @@ use crate::cursor::Cursor;
 use crate::cursor::Fault;
 use crate::cursor::Kind;
 use crate::entry::Entry;
-use crate::entry::form;
+use crate::entry::compare_form;
+use crate::entry::transform_form;
 use crate::out::Out;
 use crate::out::byte;
 use crate::out::number;
@@ -62,6 +63,22 @@ fn place(out: &mut Out, used: usize, name: &[u8], line: u64) -> usize {
     number(out, n, line)
 }
 
+// How the call is written, where it is known.
+fn written(out: &mut Out, used: usize, e: Entry) -> usize {
+    match e {
+        Entry::Transforms(t) => {
+            let n = text(out, used, b"; ");
+            transform_form(out, n, t)
+        }
+        Entry::Compares(c) => {
+            let n = text(out, used, b"; ");
+            compare_form(out, n, c)
+        }
+        Entry::Help => used,
+        Entry::Unknown => used,
+    }
+}
+
 // A line that is no call of the entry point `e`.
 pub(crate) fn malformed(
     out: &mut Out,
@@ -77,11 +94,7 @@ pub(crate) fn malformed(
     n = number(out, n, column(c.at));
     n = text(out, n, b": ");
     n = what(out, n, fault);
-    if let Entry::Unknown = e {
-        return byte(out, n, b'\n');
-    }
-    n = text(out, n, b"; ");
-    n = form(out, n, e);
+    n = written(out, n, e);
     byte(out, n, b'\n')
 }
 

@@ -2,12 +2,16 @@
 mod answer;
 mod buffer;
 mod cursor;
+mod distortions;
 mod entry;
 mod fault;
+mod groups;
 mod input;
+mod jobs;
 mod line;
 mod number;
 mod out;
+mod said;
 mod sign;
 mod token;
 mod transforms;
@@ -67,6 +71,22 @@ fn files(
     }
 }
 
+// Replays the files that the arguments name, or standard input where there are none.
+fn given(
+    text: &mut Text,
+    shorts: &mut Shorts,
+    words: &mut Words,
+    one: &mut Samples,
+    two: &mut Samples,
+    out: &mut out::Out,
+) {
+    if os::arg_count() < 2 {
+        input::replay(STDIN_FILENO, b"", text, shorts, words, one, two, out);
+    } else {
+        files(text, shorts, words, one, two, out);
+    }
+}
+
 fn main() {
     let mut text = [0u8; 524288];
     let mut shorts = [0i16; 16384];
@@ -74,25 +94,12 @@ fn main() {
     let mut one = [0u16; 16384];
     let mut two = [0u16; 16384];
     let mut out = [0u8; 65536];
-    if os::arg_count() < 2 {
-        input::replay(
-            STDIN_FILENO,
-            b"",
-            &mut text,
-            &mut shorts,
-            &mut words,
-            &mut one,
-            &mut two,
-            &mut out,
-        );
-    } else {
-        files(
-            &mut text,
-            &mut shorts,
-            &mut words,
-            &mut one,
-            &mut two,
-            &mut out,
-        );
-    }
+    given(
+        &mut text,
+        &mut shorts,
+        &mut words,
+        &mut one,
+        &mut two,
+        &mut out,
+    );
 }

@@ -1,16 +1,12 @@
-// The calls of the dequantizer, the stages, the job and the sub-block.
+// The calls of the scale, the dequantizer and the two stages.
 use crate::answer;
 use crate::buffer;
 use crate::cursor::Cursor;
 use crate::cursor::is_good;
+use crate::groups::pair_at;
 use crate::number;
 use crate::out::Out;
-
-// How much of the output is used, and where reading ended: at a fault nothing was called.
-pub(crate) struct Said {
-    pub(crate) used: usize,
-    pub(crate) end: Cursor,
-}
+use crate::said::Said;
 
 pub(crate) fn scale(line: &[u8], c: Cursor, out: &mut Out, used: usize) -> Said {
     let qp = number::byte(line, c);
@@ -23,9 +19,8 @@ pub(crate) fn scale(line: &[u8], c: Cursor, out: &mut Out, used: usize) -> Said 
 }
 
 pub(crate) fn dquant(line: &[u8], c: Cursor, coef: &mut [i16], out: &mut Out, used: usize) -> Said {
-    let w = number::size(line, c);
-    let h = number::size(line, w.next);
-    let scale = number::word(line, h.next);
+    let logs = pair_at(line, c);
+    let scale = number::word(line, logs.next);
     let offset = number::word(line, scale.next);
     let shift = number::byte(line, offset.next);
     let n = buffer::shorts(line, shift.next, coef);
@@ -36,13 +31,60 @@ pub(crate) fn dquant(line: &[u8], c: Cursor, coef: &mut [i16], out: &mut Out, us
     }
     let a = dquant::evc_dquant(
         &mut coef[0..k],
-        w.value,
-        h.value,
+        logs.x,
+        logs.y,
         scale.value,
         offset.value,
         shift.value,
     );
     let m = answer::of_call(out, used, a);
     let used = answer::shorts(out, m, &coef[0..k]);
+    Said { used, end }
+}
+
+pub(crate) fn itxb0(
+    line: &[u8],
+    c: Cursor,
+    src: &mut [i16],
+    dst: &mut [i32],
+    out: &mut Out,
+    used: usize,
+) -> Said {
+    let logs = pair_at(line, c);
+    let n = buffer::shorts(line, logs.next, src);
+    let m = buffer::words(line, n.next, dst);
+    let i = n.value;
+    let k = m.value;
+    let end = number::end(line, m.next);
+    if !is_good(end) {
+        return Said { used, end };
+    }
+    let a = itx::itxb0(&src[0..i], &mut dst[0..k], logs.x, logs.y);
+    let t = answer::of_call(out, used, a);
+    let used = answer::words(out, t, &dst[0..k]);
+    Said { used, end }
+}
+
+pub(crate) fn itxb1(
+    line: &[u8],
+    c: Cursor,
+    src: &mut [i32],
+    dst: &mut [i16],
+    out: &mut Out,
+    used: usize,
+) -> Said {
+    let logs = pair_at(line, c);
+    let shift = number::byte(line, logs.next);
+    let n = buffer::words(line, shift.next, src);
+    let m = buffer::shorts(line, n.next, dst);
+    let i = n.value;
+    let k = m.value;
+    let end = number::end(line, m.next);
+    if !is_good(end) {
+        return Said { used, end };
+    }
+    let a = itx::itxb1(&src[0..i], &mut dst[0..k], logs.x, logs.y, shift.value);
+    let t = answer::of_call(out, used, a);
+    let used = answer::shorts(out, t, &dst[0..k]);
     Said { used, end }
 }

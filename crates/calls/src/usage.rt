@@ -1,31 +1,41 @@
 // What the program says where it is given nothing, or 'help'.
-use crate::entry::Entry;
-use crate::entry::form;
+use crate::entry::Compare;
+use crate::entry::Transform;
+use crate::entry::compare_form;
+use crate::entry::transform_form;
 use crate::out::Out;
 use crate::out::byte;
 use crate::out::text;
 
-fn line(out: &mut Out, used: usize, e: Entry) -> usize {
+fn transform_line(out: &mut Out, used: usize, t: Transform) -> usize {
     let n = text(out, used, b"  ");
-    let m = form(out, n, e);
+    let m = transform_form(out, n, t);
+    byte(out, m, b'\n')
+}
+
+fn compare_line(out: &mut Out, used: usize, c: Compare) -> usize {
+    let n = text(out, used, b"  ");
+    let m = compare_form(out, n, c);
     byte(out, m, b'\n')
 }
 
 fn calls(out: &mut Out, used: usize) -> usize {
-    let mut n = line(out, used, Entry::Scale);
-    n = line(out, n, Entry::Dquant);
-    n = line(out, n, Entry::Itxb0);
-    n = line(out, n, Entry::Itxb1);
-    n = line(out, n, Entry::Job);
-    n = line(out, n, Entry::SubBlock);
-    n = line(out, n, Entry::Diff);
-    n = line(out, n, Entry::Satd);
-    n = line(out, n, Entry::Ssd16b);
-    n = line(out, n, Entry::Ssd16i);
-    n = line(out, n, Entry::Sad16b);
-    n = line(out, n, Entry::SadBi16b);
-    n = line(out, n, Entry::Sad16i);
-    line(out, n, Entry::SadBi16i)
+    let mut n = used;
+    n = transform_line(out, n, Transform::Scale);
+    n = transform_line(out, n, Transform::Dquant);
+    n = transform_line(out, n, Transform::Itxb0);
+    n = transform_line(out, n, Transform::Itxb1);
+    n = transform_line(out, n, Transform::Job);
+    n = transform_line(out, n, Transform::SubBlock);
+    n = compare_line(out, n, Compare::Diff);
+    n = compare_line(out, n, Compare::Satd);
+    n = compare_line(out, n, Compare::Ssd16b);
+    n = compare_line(out, n, Compare::Ssd16i);
+    n = compare_line(out, n, Compare::Sad16b);
+    n = compare_line(out, n, Compare::SadBi16b);
+    n = compare_line(out, n, Compare::Sad16i);
+    n = compare_line(out, n, Compare::SadBi16i);
+    n
 }
 
 pub(crate) fn usage(out: &mut Out, used: usize) -> usize {

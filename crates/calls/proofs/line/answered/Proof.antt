@@ -24,20 +24,17 @@ returns-2 c = search needs
 seek-requires-2 : tie.Need-seek-requires-2
 seek-requires-2 c κs = search needs
 
-sub-of : tie.Need-sub-of
-sub-of c = search needs
+sub-entry-of : tie.Need-sub-entry-of
+sub-entry-of c = search needs
 
-part-of-start : tie.Need-part-of-start
-part-of-start c = search needs
+part-entry-of-start : tie.Need-part-entry-of-start
+part-entry-of-start c = search needs
 
-part-of-end : tie.Need-part-of-end
-part-of-end c = omega (arith, c .seek2 .ensures .within (omega arith))
+part-entry-of-end : tie.Need-part-entry-of-end
+part-entry-of-end c = omega (arith, c .seek2 .ensures .within (omega arith))
 
-of-requires : tie.Need-of-requires
-of-requires c κs = search needs
-
-good-requires : tie.Need-good-requires
-good-requires c κs = search needs
+entry-of-requires : tie.Need-entry-of-requires
+entry-of-requires c κs = search needs
 
 call-requires : tie.Need-call-requires
 call-requires c κs = search needs
@@ -89,11 +86,10 @@ answered-spec =
     byte-requires
     returns-2
     seek-requires-2
-    sub-of
-    part-of-start
-    part-of-end
-    of-requires
-    good-requires
+    sub-entry-of
+    part-entry-of-start
+    part-entry-of-end
+    entry-of-requires
     call-requires
     is-good-requires
     same-length
