@@ -1,4 +1,7 @@
-// Replays calls.
+// Replays calls of the codec's entry points, one to a line, and writes their answers: for trying a call by hand, and for holding recorded answers
+// against the code. `usage` says what a line is. From the bottom: `out` writes, `token` to `groups` read, `entry` knows the names, `transforms`,
+// `jobs` and `distortions` call, `line` answers one line and `input` all of them. Nothing here promises more than to be safe and to end: the meaning
+// of the answers is promised by the crates that are called, and that the text is read and written right is shown by the recorded runs.
 mod answer;
 mod buffer;
 mod cursor;
@@ -40,8 +43,10 @@ fn file(
 ) {
     let mut path = io::buffer();
     let n = os::arg(i, &mut path);
-    if os::errno() != 0 {
+    if os::errno() != 0 || n == 0 {
         os::fail(b"an argument");
+        let used = fault::unread(out, 0, b"an argument");
+        out::flush(out, used);
         return;
     }
     let fd = os::open_read(&path[0..n]);

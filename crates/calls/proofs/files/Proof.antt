@@ -1,3 +1,4 @@
+-- `calls::files` is safe and ends: the arguments that are left are the measure. Assumes nothing.
 use borrow.Author.Needs.{needs}
 use Prim.Native.Nat.{_-_}
 use Rattle.calls.proofs.files.Statement.{statement}

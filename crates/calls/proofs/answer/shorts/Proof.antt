@@ -1,3 +1,4 @@
+-- `calls::answer::shorts` is safe and ends: the numbers that are left are the measure. Assumes nothing.
 use borrow.Author.Needs.{needs}
 use Prim.Native.Nat.{_-_}
 use lib.ListN.{length}

@@ -1,3 +1,4 @@
+-- `calls::answer::words` is safe and ends, as `shorts` does. Assumes nothing.
 use borrow.Author.Needs.{needs}
 use Prim.Native.Nat.{_-_}
 use lib.ListN.{length}

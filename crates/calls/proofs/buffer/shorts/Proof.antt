@@ -1,3 +1,4 @@
+-- `calls::buffer::shorts` meets its contract: the room keeps its length, and the numbers that are left are the measure. Assumes nothing.
 use mathlib.Core.Path.{_≡_}
 use borrow.Author.Needs.{needs}
 use Prim.Native.Nat.{_-_}

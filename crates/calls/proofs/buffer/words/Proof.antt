@@ -1,3 +1,4 @@
+-- `calls::buffer::words` meets its contract, as `shorts` does. Assumes nothing.
 use borrow.Author.Needs.{needs}
 use Prim.Native.Nat.{_-_}
 use mathlib.Core.Path.{_≡_}

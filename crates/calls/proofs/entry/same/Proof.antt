@@ -1,3 +1,4 @@
+-- `calls::entry::same` is safe and ends: what is left of the first is the measure. Assumes nothing.
 use borrow.Author.Needs.{needs}
 use Prim.Native.Nat.{_-_}
 use lib.ListN.{length}

@@ -1,3 +1,4 @@
+-- `calls::input::line_end` meets its contract: the place that is looked at lies between both ends. Assumes nothing.
 use borrow.Author.Needs.{needs}
 use Prim.Native.Nat.{_-_, _≤_}
 use lib.ListN.{length}

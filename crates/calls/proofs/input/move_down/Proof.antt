@@ -1,3 +1,4 @@
+-- `calls::input::move_down` is safe: the place read is past those written, within the buffer, which keeps its length. Assumes nothing.
 use mathlib.Core.Path.{_≡_}
 use borrow.Author.Needs.{needs}
 use Prim.Native.Nat.{_-_, _≤_}

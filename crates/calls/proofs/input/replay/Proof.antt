@@ -1,3 +1,4 @@
+-- `calls::input::replay` is safe and ends: what is not yet taken lies within the buffer, and the turns that are left are the measure. Assumes nothing.
 use borrow.Author.Needs.{needs}
 use mathlib.Core.Path.{_≡_}
 use lib.ListN.{length}

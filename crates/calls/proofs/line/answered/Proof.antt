@@ -1,3 +1,4 @@
+-- `calls::line::answered` is safe: a name ends within its line. Assumes nothing.
 use native.Mathlib.Omega.{arith}
 use borrow.Author.Needs.{needs}
 use Rattle.calls.proofs.line.answered.Statement.{statement}

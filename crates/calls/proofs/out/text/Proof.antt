@@ -1,3 +1,4 @@
+-- `calls::out::text` is safe and ends: what is left of the text is the measure. Assumes nothing.
 use borrow.Author.Needs.{needs}
 use Prim.Native.Nat.{_-_}
 use lib.ListN.{length}

@@ -1,9 +1,7 @@
+-- `calls::sign::wide_32` is safe: an i32 fits 64 bits. Assumes nothing.
 use mathlib.Core.List.{[], _∷_}
-use Prim.Native.Nat.{ℕ}
-use lib.IntN.{pos}
-use mir.Syntax.{w16, w32, w64}
-use native.Mathlib.Omega.{arith}
-use Rattle.integers.proofs.Expr.{Ex, Known, env, arg, nat, var, lit, sub, neg, loc, fit, reads}
+use mir.Syntax.{w32, w64}
+use Rattle.integers.proofs.Expr.{env, arg, var, fit}
 use borrow.Author.Needs.{needs}
 use Rattle.calls.proofs.sign.wide_32.Statement.{statement}
 use Rattle.calls.proofs.sign.wide_32.Tie as tie

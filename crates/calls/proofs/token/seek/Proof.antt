@@ -1,3 +1,4 @@
+-- `calls::token::seek` meets its contract: the invariant is the contract, at the place that is looked at. Assumes nothing.
 use borrow.Author.Needs.{needs}
 use Prim.Native.Nat.{_-_}
 use native.Mathlib.Omega.{arith}
