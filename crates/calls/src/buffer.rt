@@ -52,6 +52,12 @@ fn length_at(line: &[u8], c: Cursor, most: usize) -> Count
         };
     }
     if byte_at(line, next.at) == b'*' && is_good(next) {
+        if n == 0 {
+            return Count {
+                value: n,
+                next: out_of_range(t.from, Kind::Run),
+            };
+        }
         return Count {
             value: n,
             next: good(t.from),
