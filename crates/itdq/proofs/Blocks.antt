@@ -15,8 +15,8 @@ use Rattle.evc.specs.Dequantizer.{scale, dequantized, dquantExit}
 use Rattle.evc.specs.Stages.{itxb0Exit, itxb1Exit, stageOne}
 use Rattle.evc.specs.Jobs.{width, height, block}
 use Rattle.dquant.proofs.Calls.{dquant-whole}
+use Rattle.itx.proofs.Calls.{stage-one-whole, stage-two-whole}
 use Rattle.itdq.specs.Ranges.{Whole}
-use Rattle.itdq.proofs.Laws.{stage-one-whole, stage-two-whole}
 
 -- an area has at most 4,096 samples
 pub whole-most : {n : ℕ} {j : Job} → Whole n j → n ≤ 4096
@@ -49,5 +49,5 @@ module _ (j : Job) (p : List ℤ) (w : Whole (length p) j) where
   unfolding block
   block-steps by off a b m n l e f ea en eb =
       let a1 : a ≡ one = ea ∙ rw (e, f) (dquant-whole (j .logw) (j .logh) (scale (j .qp)) (j .offset) (j .dqshift) p (w .w6) (w .h6) (w .dq31) (w .long) .1) in
-      let n1 : n ≡ two = en ∙ rw a1 (stage-one-whole (tm (height j)) (j .logh) (j .logw) one m (w .h1) (w .h6) (w .w6) (one-long ∙ turned) (l ∙ w .long ∙ turned)) in
-      eb ∙ rw (n1, a1) (stage-two-whole (tm (width j)) (j .logw) (j .logh) (j .itshift) two one (w .w1) (w .w6) (w .h6) (w .it31) two-long one-long)
+      let n1 : n ≡ two = en ∙ rw a1 (stage-one-whole (j .logh) (j .logw) one m (w .h1) (w .h6) (w .w6) (one-long ∙ turned) (l ∙ w .long ∙ turned) .1) in
+      eb ∙ rw (n1, a1) (stage-two-whole (j .logw) (j .logh) two one (w .w1) (w .w6) (w .h6) two-long one-long (j .itshift) (w .it31) .1)
