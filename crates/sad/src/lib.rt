@@ -5,13 +5,18 @@ mod diff;
 mod edges;
 mod rows;
 mod sad;
+mod satd;
 mod ssd;
 mod tests;
+mod tiles2;
+mod tiles4;
+mod tiles8;
 
 pub use diff::evce_diff_16b;
 pub use sad::evce_sad_16b;
 pub use sad::evce_sad_16i;
 pub use sad::evce_sad_bi_16b;
 pub use sad::evce_sad_bi_16i;
+pub use satd::evce_satd_16b;
 pub use ssd::evce_ssd_16b;
 pub use ssd::evce_ssd_16i;
