@@ -79,8 +79,7 @@ pub(crate) fn of_squared(out: &mut Out, used: usize, a: SquaredDistortion) -> us
     }
 }
 
-// The contents of the buffer follow.
-pub(crate) fn of_call(out: &mut Out, used: usize, a: Answer) -> usize {
+fn of_call(out: &mut Out, used: usize, a: Answer) -> usize {
     match a {
         Answer::Done => text(out, used, b"0 done"),
         Answer::Refused(r) => refusal(out, used, r),
@@ -108,7 +107,7 @@ pub(crate) fn shorts(out: &mut Out, used: usize, s: &[i16]) -> usize {
     byte(out, n, b'\n')
 }
 
-pub(crate) fn words(out: &mut Out, used: usize, s: &[i32]) -> usize {
+fn words(out: &mut Out, used: usize, s: &[i32]) -> usize {
     let mut n = text(out, used, b" |");
     let mut i = 0;
     while i < s.len() {
@@ -117,4 +116,15 @@ pub(crate) fn words(out: &mut Out, used: usize, s: &[i32]) -> usize {
         i += 1;
     }
     byte(out, n, b'\n')
+}
+
+// The answer of a call that may write a buffer, with what the buffer then holds.
+pub(crate) fn with_shorts(out: &mut Out, used: usize, a: Answer, s: &[i16]) -> usize {
+    let n = of_call(out, used, a);
+    shorts(out, n, s)
+}
+
+pub(crate) fn with_words(out: &mut Out, used: usize, a: Answer, s: &[i32]) -> usize {
+    let n = of_call(out, used, a);
+    words(out, n, s)
 }

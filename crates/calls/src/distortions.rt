@@ -5,6 +5,7 @@ use crate::answer;
 use crate::buffer;
 use crate::cursor::Cursor;
 use crate::cursor::is_good;
+use crate::groups::block_at;
 use crate::groups::motion_at;
 use crate::groups::pair_at;
 use crate::groups::plane_at;
@@ -42,10 +43,8 @@ pub(crate) fn diff(
     out: &mut Out,
     used: usize,
 ) -> Said {
-    let p = plane_at(line, c);
-    let at = pair_at(line, p.next);
-    let side = sides_at(line, at.next);
-    let n = blocks_at(line, side.next, org, cur);
+    let b = block_at(line, c);
+    let n = blocks_at(line, b.next, org, cur);
     let l = buffer::shorts(line, n.next, diff);
     let i = n.one;
     let j = n.two;
@@ -56,19 +55,18 @@ pub(crate) fn diff(
     }
     let a = sad::evce_diff_16b(
         &org[0..i],
-        p.width,
-        p.height,
-        p.stride,
-        at.x,
-        at.y,
-        side.w,
-        side.h,
+        b.width,
+        b.height,
+        b.stride,
+        b.x,
+        b.y,
+        b.w,
+        b.h,
         &cur[0..j],
-        side.depth,
+        b.depth,
         &mut diff[0..k],
     );
-    let t = answer::of_call(out, used, a);
-    let used = answer::shorts(out, t, &diff[0..k]);
+    let used = answer::with_shorts(out, used, a, &diff[0..k]);
     Said { used, end }
 }
 
@@ -80,10 +78,8 @@ pub(crate) fn satd(
     out: &mut Out,
     used: usize,
 ) -> Said {
-    let p = plane_at(line, c);
-    let at = pair_at(line, p.next);
-    let side = sides_at(line, at.next);
-    let n = blocks_at(line, side.next, org, cur);
+    let b = block_at(line, c);
+    let n = blocks_at(line, b.next, org, cur);
     let i = n.one;
     let j = n.two;
     let end = number::end(line, n.next);
@@ -92,15 +88,15 @@ pub(crate) fn satd(
     }
     let a = sad::evce_satd_16b(
         &org[0..i],
-        p.width,
-        p.height,
-        p.stride,
-        at.x,
-        at.y,
-        side.w,
-        side.h,
+        b.width,
+        b.height,
+        b.stride,
+        b.x,
+        b.y,
+        b.w,
+        b.h,
         &cur[0..j],
-        side.depth,
+        b.depth,
     );
     let used = answer::of_distortion(out, used, a);
     Said { used, end }
@@ -114,10 +110,8 @@ pub(crate) fn ssd_16b(
     out: &mut Out,
     used: usize,
 ) -> Said {
-    let p = plane_at(line, c);
-    let at = pair_at(line, p.next);
-    let side = sides_at(line, at.next);
-    let n = blocks_at(line, side.next, org, cur);
+    let b = block_at(line, c);
+    let n = blocks_at(line, b.next, org, cur);
     let i = n.one;
     let j = n.two;
     let end = number::end(line, n.next);
@@ -126,15 +120,15 @@ pub(crate) fn ssd_16b(
     }
     let a = sad::evce_ssd_16b(
         &org[0..i],
-        p.width,
-        p.height,
-        p.stride,
-        at.x,
-        at.y,
-        side.w,
-        side.h,
+        b.width,
+        b.height,
+        b.stride,
+        b.x,
+        b.y,
+        b.w,
+        b.h,
         &cur[0..j],
-        side.depth,
+        b.depth,
     );
     let used = answer::of_squared(out, used, a);
     Said { used, end }
@@ -262,10 +256,8 @@ pub(crate) fn sad_16i(
     out: &mut Out,
     used: usize,
 ) -> Said {
-    let p = plane_at(line, c);
-    let at = pair_at(line, p.next);
-    let side = sides_at(line, at.next);
-    let n = blocks_at(line, side.next, org, pred);
+    let b = block_at(line, c);
+    let n = blocks_at(line, b.next, org, pred);
     let i = n.one;
     let j = n.two;
     let end = number::end(line, n.next);
@@ -274,15 +266,15 @@ pub(crate) fn sad_16i(
     }
     let a = sad::evce_sad_16i(
         &org[0..i],
-        p.width,
-        p.height,
-        p.stride,
-        at.x,
-        at.y,
-        side.w,
-        side.h,
+        b.width,
+        b.height,
+        b.stride,
+        b.x,
+        b.y,
+        b.w,
+        b.h,
         &pred[0..j],
-        side.depth,
+        b.depth,
     );
     let used = answer::of_distortion(out, used, a);
     Said { used, end }

@@ -31,6 +31,19 @@ pub(crate) struct Sides {
     pub(crate) next: Cursor,
 }
 
+// A block in a plane: the plane, the block's position, its sides or their logarithms, and the depth of the samples.
+pub(crate) struct Block {
+    pub(crate) width: usize,
+    pub(crate) height: usize,
+    pub(crate) stride: usize,
+    pub(crate) x: usize,
+    pub(crate) y: usize,
+    pub(crate) w: usize,
+    pub(crate) h: usize,
+    pub(crate) depth: u8,
+    pub(crate) next: Cursor,
+}
+
 pub(crate) fn plane_at(line: &[u8], c: Cursor) -> Plane {
     let width = number::size(line, c);
     let height = number::size(line, width.next);
@@ -75,6 +88,24 @@ pub(crate) fn sides_at(line: &[u8], c: Cursor) -> Sides {
         w: w.value,
         h: h.value,
         depth: depth.value,
+        next,
+    }
+}
+
+pub(crate) fn block_at(line: &[u8], c: Cursor) -> Block {
+    let p = plane_at(line, c);
+    let at = pair_at(line, p.next);
+    let side = sides_at(line, at.next);
+    let next = side.next;
+    Block {
+        width: p.width,
+        height: p.height,
+        stride: p.stride,
+        x: at.x,
+        y: at.y,
+        w: side.w,
+        h: side.h,
+        depth: side.depth,
         next,
     }
 }

@@ -34,8 +34,7 @@ pub(crate) fn job(line: &[u8], c: Cursor, coef: &mut [i16], out: &mut Out, used:
         itshift: itshift.value,
     };
     let a = itdq::evc_itdq_job(&mut coef[0..k], job);
-    let t = answer::of_call(out, used, a);
-    let used = answer::shorts(out, t, &coef[0..k]);
+    let used = answer::with_shorts(out, used, a, &coef[0..k]);
     Said { used, end }
 }
 

@@ -37,8 +37,7 @@ pub(crate) fn dquant(line: &[u8], c: Cursor, coef: &mut [i16], out: &mut Out, us
         offset.value,
         shift.value,
     );
-    let m = answer::of_call(out, used, a);
-    let used = answer::shorts(out, m, &coef[0..k]);
+    let used = answer::with_shorts(out, used, a, &coef[0..k]);
     Said { used, end }
 }
 
@@ -60,8 +59,7 @@ pub(crate) fn itxb0(
         return Said { used, end };
     }
     let a = itx::itxb0(&src[0..i], &mut dst[0..k], logs.x, logs.y);
-    let t = answer::of_call(out, used, a);
-    let used = answer::words(out, t, &dst[0..k]);
+    let used = answer::with_words(out, used, a, &dst[0..k]);
     Said { used, end }
 }
 
@@ -84,7 +82,6 @@ pub(crate) fn itxb1(
         return Said { used, end };
     }
     let a = itx::itxb1(&src[0..i], &mut dst[0..k], logs.x, logs.y, shift.value);
-    let t = answer::of_call(out, used, a);
-    let used = answer::shorts(out, t, &dst[0..k]);
+    let used = answer::with_shorts(out, used, a, &dst[0..k]);
     Said { used, end }
 }
