@@ -1,0 +1,64 @@
+-- `calls::buffer::words` meets its contract, as `shorts` does. Assumes nothing.
+use borrow.Author.Needs.{needs}
+use Prim.Native.Nat.{_-_}
+use mathlib.Core.Path.{_≡_}
+use lib.ListN.{length}
+use Rattle.calls.proofs.buffer.words.Statement.{statement}
+use Rattle.calls.proofs.buffer.words.Tie as tie
+
+abbrev Inv-loop : tie.InvT-loop
+Inv-loop line room₀ count s₀ i₀ room s i = length room ≡ length room₀
+
+abbrev μ-loop : tie.MeasureT-loop
+μ-loop line room₀ count s₀ i₀ room s i = count - i
+
+length-at-requires : tie.Need-length-at-requires Inv-loop μ-loop
+length-at-requires c κs = search needs
+
+loop-holds : tie.Need-loop-holds Inv-loop μ-loop
+loop-holds c = search needs
+
+sub-next-word : tie.Need-sub-next-word Inv-loop μ-loop
+sub-next-word c = search needs
+
+next-word-requires : tie.Need-next-word-requires Inv-loop μ-loop
+next-word-requires c κs = search needs
+
+mul-v : tie.Need-mul-v Inv-loop μ-loop
+mul-v c = search needs
+
+slice-set-from-v : tie.Need-slice-set-from-v Inv-loop μ-loop
+slice-set-from-v c = search needs
+
+add-i : tie.Need-add-i Inv-loop μ-loop
+add-i c = search needs
+
+loop-less : tie.Need-loop-less Inv-loop μ-loop
+loop-less c = search needs
+
+loop-again : tie.Need-loop-again Inv-loop μ-loop
+loop-again c = search needs
+
+same-length : tie.Need-same-length Inv-loop μ-loop
+same-length c = search needs
+
+returns : tie.Need-returns Inv-loop μ-loop
+returns c = search needs
+
+pub words-spec : {M : Type 1} → statement M
+words-spec =
+    tie.close
+    (tie.spec
+    Inv-loop
+    μ-loop
+    length-at-requires
+    loop-holds
+    sub-next-word
+    next-word-requires
+    mul-v
+    slice-set-from-v
+    add-i
+    loop-less
+    loop-again
+    same-length
+    returns)
