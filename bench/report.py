@@ -99,8 +99,9 @@ def whole(x):
 
 def table(head, rows):
     """A row of which nothing was measured is left out."""
+    rows = [r for r in rows if any(c.strip("- ") for c in r[1:])]
     lines = ["| " + " | ".join(head) + " |", "|" + "---|" * len(head)]
-    return lines + ["| " + " | ".join(r) + " |" for r in rows if any(c.strip("- ") for c in r[1:])]
+    return lines + ["| " + " | ".join(r) + " |" for r in rows] if rows else ["not measured"]
 
 
 def both(pair, show=whole):
@@ -111,36 +112,53 @@ def case_name(kernel, place, w, h):
     return f"{kernel}{', ' + place if place else ''} {w}x{h}" if place != "one line" else f"{kernel}, one line of {w}"
 
 
+def is_missed(b):
+    return b[5] is not None and rounded(b[5]) > b[0]
+
+
 def bars_part(run):
-    all_bars = list(run.bars())
-    missed = [b for b in all_bars if b[5] is None or rounded(b[5]) > b[0]]
-    lines = []
+    """A line for each group of bars, and each bar that is missed or of which nothing was measured."""
     groups = {}
-    for b in all_bars:
+    for b in run.bars():
         kind = "stages and jobs" if b[1] in TRANSFORM else "SATD" if b[1] == "satd" else "positions below 0" if b[2] else "SAD, SSD, DIFF"
         side = "8 to 64" if kind == "stages and jobs" else f"{b[3]}x{b[4]}"
         groups.setdefault((kind, side, b[0]), []).append(b)
-    rows = []
-    for (kind, side, limit), members in groups.items():
-        measured = [m for m in members if m[5] is not None]
-        worst = max(measured, key=lambda m: m[5]) if measured else None
-        bad = [m for m in members if m in missed]
+    rows, bad = [], []
+    for (kind, side, limit), members in sorted(groups.items()):
+        measured = [b for b in members if b[5] is not None]
+        missed = [b for b in measured if is_missed(b)]
+        worst = max(measured, key=lambda b: b[5]) if measured else None
+        said = [f"**MISSED** by {len(missed)} of {len(members)}"] if missed else []
+        said += [f"{len(members) - len(measured)} of {len(members)} not measured"] if len(measured) < len(members) else []
         told = "-" if worst is None else f"{figure(worst[5])} ({case_name(*worst[1:5])})"
-        rows.append([kind, side, f"{limit}", told, "met" if not bad else f"**MISSED** by {len(bad)} of {len(members)}"])
-    lines += table(["kernels", "size", "bar", "largest ratio", ""], sorted(rows))
-    if missed:
-        lines += ["", "Missed:", ""]
-        lines += [f"- **{case_name(*b[1:5])}: {figure(b[5]) if b[5] is not None else 'not measured'}**, bar {b[0]}" for b in missed]
-    return lines, missed
+        rows.append([kind, side, f"{limit}", told, ", ".join(said) or "met"])
+        bad += [b for b in members if b[5] is None or is_missed(b)]
+    lines = table(["kernels", "size", "bar", "largest ratio", ""], rows)
+    if bad:
+        lines += [""] + [f"- **{told_bar(b)}**" for b in bad]
+    return lines, bad
+
+
+def told_bar(b):
+    name = f"{case_name(*b[1:5])}, bar {b[0]}"
+    return f"MISSED: {name}: {figure(b[5])}" if b[5] is not None else f"NOT MEASURED: {name}"
+
+
+def wrong_part(run):
+    """Cases by kernel and what was answered instead."""
+    groups = {}
+    for (kernel, place, w, h, d), said in run.wrong:
+        groups.setdefault((kernel, said), []).append(f"{w}x{h}{' ' + place if place else ''} at {d}")
+    return [f"- {kernel}, {said}: {len(cases)} cases ({', '.join(cases[:6])}{', ..' if len(cases) > 6 else ''})" for (kernel, said), cases in groups.items()]
 
 
 def tables(run):
-    """The body of the report: lines, and whether a bar is missed."""
+    """The body of the report: lines, and the bars that are not met."""
     out = []
     if run.wrong:
         out += ["## Not measured: another answer than the Rust's", ""]
-        out += [f"- {case_name(*key[:4])}, depth {key[4]}: {said}" for key, said in run.wrong] + [""]
-    lines, missed = bars_part(run)
+        out += wrong_part(run) + [""]
+    lines, bad = bars_part(run)
     out += ["## Bars", "", "Times, the largest ratio of the three depths.", ""] + lines + [""]
 
     out += ["## Time, ours / Rust, at depths 8, 10 and 14", ""]
@@ -168,7 +186,7 @@ def tables(run):
         cells = [figure(run.ratio("steps", "job", "", w, h, COUNTED)) for w, h in OBLONG]
         cells += [figure(run.ratio("steps", k, "one line", 64, 1, COUNTED)) for k in ("itxb0", "itxb1")]
         out += table(head, [cells]) + [""]
-    return out, missed
+    return out, bad
 
 
 def setting(run):
@@ -201,7 +219,7 @@ def main():
     if what == ["self"]:
         print("\n".join(chance(run) + [""] + setting(run)))
         return 0
-    body, missed = tables(run)
+    body, bad = tables(run)
     print("\n".join(body + setting(run)))
     if what == ["docs"]:
         here = os.path.dirname(os.path.abspath(__file__))
@@ -224,12 +242,14 @@ def main():
                     ]
                 )
             )
-    for key, said in run.wrong:
-        print(f"WRONG: {case_name(*key[:4])}, depth {key[4]}: {said}")
-    for limit, kernel, place, w, h, got in missed:
-        print(f"MISSED: {case_name(kernel, place, w, h)}: {figure(got)}, bar {limit}")
-    print(f"{len(run.cases)} cases measured, {len(run.wrong)} with another answer, {len(missed)} bars missed")
-    return 1 if run.wrong or missed else 0
+    print()
+    for line in wrong_part(run):
+        print(f"WRONG: {line[2:]}")
+    for b in bad:
+        print(told_bar(b))
+    missed = sum(is_missed(b) for b in bad)
+    print(f"{len(run.cases)} cases measured, {len(run.wrong)} with another answer; bars: {missed} missed, {len(bad) - missed} not measured")
+    return 1 if run.wrong or bad else 0
 
 
 if __name__ == "__main__":
