@@ -156,7 +156,7 @@ def tables(run):
     """The body of the report: lines, and the bars that are not met."""
     out = []
     if run.wrong:
-        out += ["## Not measured: another answer than the Rust's", ""]
+        out += ["## Not measured", ""]
         out += wrong_part(run) + [""]
     lines, bad = bars_part(run)
     out += ["## Bars", "", "Times, the largest ratio of the three depths.", ""] + lines + [""]
@@ -248,7 +248,7 @@ def main():
     for b in bad:
         print(told_bar(b))
     missed = sum(is_missed(b) for b in bad)
-    print(f"{len(run.cases)} cases measured, {len(run.wrong)} with another answer; bars: {missed} missed, {len(bad) - missed} not measured")
+    print(f"{len(run.cases)} cases measured, {len(run.wrong)} without the Rust's answer; bars: {missed} missed, {len(bad) - missed} not measured")
     return 1 if run.wrong or bad else 0
 
 

@@ -39,6 +39,8 @@ fn compared(case: &Case) -> String {
     let (rust, ours) = (answer(&case.rust, case), answer(&case.ours, case));
     if rust == ours {
         "same".into()
+    } else if ours.0 == cases::refused(255) {
+        "not in the archive".into()
     } else if (1..=7).any(|n| ours.0 == cases::refused(n)) {
         format!("refused with {}", ours.0 - i64::MIN)
     } else {
@@ -76,7 +78,8 @@ fn main() {
     for (i, c) in all.iter().enumerate() {
         print!("{}\t{}\t{}\t{}\t{}\t{}", c.kernel, c.place, c.w, c.h, c.depth, said[i]);
         if said[i] == "same" {
-            let count = |s: &Side| if c.depth == COUNTED { steps::steps(s).map_or(String::new(), |n| n.to_string()) } else { String::new() };
+            let count =
+                |s: &Side| if c.depth == COUNTED && !myself { steps::steps(s).map_or(String::new(), |n| n.to_string()) } else { String::new() };
             let (o, r) = times[i].best();
             println!("\t{o:.2}\t{r:.2}\t{:.4}\t{}\t{}", times[i].middle(), count(ours(c, myself)), count(&c.rust));
         } else {
