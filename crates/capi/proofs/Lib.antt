@@ -1,0 +1,2 @@
+-- Laws that the exports share.
+pub mod Laws

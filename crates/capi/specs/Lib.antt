@@ -1,0 +1,2 @@
+-- What crosses the boundary to C.
+pub mod Boundary

@@ -1,0 +1,26 @@
+-- `itdq::block::large` meets its contract: the prefix that is lent has the area's length. Assumes nothing.
+use mathlib.Core.Path.{sym}
+use lib.Seq.{length-take-le}
+use borrow.Author.Needs.{needs}
+use Rattle.itdq.proofs.block.large.Statement.{statement}
+use Rattle.itdq.proofs.block.large.Tie as tie
+
+array-borrow-prefix-between : tie.Need-array-borrow-prefix-between
+array-borrow-prefix-between c = search needs
+
+slice-aggregate-steps : tie.Need-slice-aggregate-steps
+slice-aggregate-steps c = sym (length-take-le _ _ (c .before .before .pre .1))
+
+steps-requires : tie.Need-steps-requires
+steps-requires c κs = (c .before .before .pre .0, length-take-le _ _ (c .before .before .pre .1))
+
+same-length : tie.Need-same-length
+same-length c = search needs
+
+returns : tie.Need-returns
+returns c = search needs
+
+pub large-spec : {M : Type 1} → statement M
+large-spec =
+    tie.close
+    (tie.spec array-borrow-prefix-between slice-aggregate-steps steps-requires same-length returns)

@@ -1,0 +1,25 @@
+// `evc_itdq_job`, the block job. Document 01, "Numbers of the domain" and "The two stages".
+// Differs from the Rust in: the job's own area is lent on, where the Rust's driver lends the buffer's tail; all tests are made first, and a
+// refused job has written nothing.
+ghost use mathlib.Core.Path.{_≡_};
+ghost use lib.ListN.{length};
+ghost use Rattle.evc.specs.Answers.{answerNumber};
+ghost use Rattle.evc.specs.Jobs.{jobNumber, jobExit};
+use crate::block::transform;
+use crate::tests::job_tests;
+use crate::tests::samples;
+use evc::Answer;
+use evc::Job;
+
+pub fn evc_itdq_job(coef: &mut [i16], job: Job) -> Answer
+    ensures answer { λ r. ⌜ answerNumber r ≡ jobNumber (length (now (coef .entry))) job ⌝ }
+    ensures exit { λ r. ⌜ now (coef .exit) ≡ jobExit job (now (coef .entry)) ⌝ }
+{
+    let answer = job_tests(coef.len(), job);
+    if let Answer::Done = answer {
+        let start = job.start;
+        let end = start + samples(job.logw, job.logh);
+        transform(&mut coef[start..end], job);
+    }
+    answer
+}

@@ -1,0 +1,13 @@
+-- The laws of both stages.
+
+-- a line: the halving of any mirrored table, bounds on its sums, the buffer during a halving step
+pub mod Halving
+pub mod Bounds
+pub mod Step
+-- the lines of a buffer: gathered, stored
+pub mod Lines
+-- document 01's table as an instance
+pub mod Instance
+-- what callers cite
+pub mod Calls
+pub mod Clip

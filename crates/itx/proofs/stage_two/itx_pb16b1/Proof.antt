@@ -1,0 +1,63 @@
+-- `itx::stage_two::itx_pb16b1` meets its contract: gathered, summed, stored. Assumes nothing.
+use borrow.Author.Needs.{needs}
+use mathlib.Core.Path.{refl}
+use native.Mathlib.Omega.{arith}
+use mir.Facts.{toZ-ofZ}
+use Rattle.evc.specs.Table.{tm}
+use Rattle.evc.specs.Stages.{stageTwoAt}
+use Rattle.itx.specs.Lines.{shifted}
+use Rattle.itx.proofs.Lines.{inputs, lined}
+use Rattle.itx.proofs.Instance.{own-bounded}
+use Rattle.itx.proofs.stage_two.itx_pb16b1.Statement.{statement}
+use Rattle.itx.proofs.stage_two.itx_pb16b1.Tie as tie
+
+slice-aggregate-gather-i32 : tie.Need-slice-aggregate-gather-i32
+slice-aggregate-gather-i32 c = search needs
+
+gather-i32-requires : tie.Need-gather-i32-requires
+gather-i32-requires c κs = search needs
+
+slice-aggregate-own16 : tie.Need-slice-aggregate-own16
+slice-aggregate-own16 c = search needs
+
+slice-aggregate-own16-2 : tie.Need-slice-aggregate-own16-2
+slice-aggregate-own16-2 c = search needs
+
+own16-requires : tie.Need-own16-requires
+own16-requires c κs = (inputs (c .before .before .before .gather-i32 .ensures) (omega arith), refl)
+
+slice-aggregate-store-i16 : tie.Need-slice-aggregate-store-i16
+slice-aggregate-store-i16 c = search needs
+
+store-i16-requires : tie.Need-store-i16-requires
+store-i16-requires c κs =
+    let s = c .before .before .before .before .before .before .before .before .before in (
+      (
+        rw (toZ-ofZ (s .fits .add)) (s .pre .0),
+        own-bounded 16 (inputs (c .before .before .before .before .before .before .before .gather-i32 .ensures) (omega arith)) (c .before .before .before .own16 .ensures),
+      ),
+      (search needs, s .pre .1 .dst-room),
+    )
+
+same-length : tie.Need-same-length
+same-length c = search needs
+
+returns : tie.Need-returns
+unfolding stageTwoAt
+returns c =
+    let s = c .before .before .before .before .before .before .before .before .before .before .before in
+    lined (shifted (s .args .shift)) (tm 16) 16 (s .args .l) (s .args .j) (s .args .src .now) (c .before .before .before .before .before .before .before .before .before .gather-i32 .ensures) (c .before .before .before .before .before .own16 .ensures) (c .before .store-i16 .ensures)
+
+pub itx-pb16b1-spec : {M : Type 1} → statement M
+itx-pb16b1-spec =
+    tie.close
+    (tie.spec
+    slice-aggregate-gather-i32
+    gather-i32-requires
+    slice-aggregate-own16
+    slice-aggregate-own16-2
+    own16-requires
+    slice-aggregate-store-i16
+    store-i16-requires
+    same-length
+    returns)

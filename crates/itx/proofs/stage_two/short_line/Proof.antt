@@ -1,0 +1,71 @@
+-- `itx::stage_two::short_line` meets its contract: the log says which size it is. Assumes nothing.
+use borrow.Author.Needs.{needs}
+use Prim.Native.Nat.{ℕ, _^_}
+use native.Mathlib.Omega.{arith}
+use lib.IntN.{ℤ}
+use mir.Facts.{toZ-ofZ}
+use Rattle.evc.specs.Table.{tm}
+use Rattle.evc.specs.Stages.{stageTwoAt}
+use Rattle.itx.proofs.Lines.{room-at, lined-at}
+use Rattle.itx.proofs.stage_two.short_line.Statement.{statement}
+use Rattle.itx.proofs.stage_two.short_line.Tie as tie
+
+-- what the stage leaves, by the log of its size
+abbrev sums : tie.Start → ℕ → ℕ → ℤ
+sums s g = stageTwoAt (tm (2 ^ g)) (2 ^ g) (s .args .l) (s .args .shift) (s .args .src .now)
+
+itx-pb2b1-requires : tie.Need-itx-pb2b1-requires
+itx-pb2b1-requires c κs = let s = c .before .before in (rw (toZ-ofZ (s .fits .add)) (s .pre .0), room-at (s .args .log) 1 (c .before .match .keys1) (s .pre .1 .1))
+
+itx-pb4b1-requires : tie.Need-itx-pb4b1-requires
+itx-pb4b1-requires c κs = let s = c .before .before in (rw (toZ-ofZ (s .fits .add)) (s .pre .0), room-at (s .args .log) 2 (c .before .match .keys2) (s .pre .1 .1))
+
+itx-pb8b1-requires : tie.Need-itx-pb8b1-requires
+itx-pb8b1-requires c κs = let s = c .before .before in (rw (toZ-ofZ (s .fits .add)) (s .pre .0), room-at (s .args .log) 3 (c .before .match .keys3) (s .pre .1 .1))
+
+itx-pb16b1-requires : tie.Need-itx-pb16b1-requires
+itx-pb16b1-requires c κs = let s = c .before .before in (rw (toZ-ofZ (s .fits .add)) (s .pre .0), room-at (s .args .log) 4 (omega arith) (s .pre .1 .1))
+
+same-length : tie.Need-same-length
+same-length c = search needs
+
+returns : tie.Need-returns
+returns c =
+    let s = c .before .before .before .before in lined-at (sums s) (s .args .j) (s .args .log) 1 (c .before .before .before .match .keys1) (c .before .itx-pb2b1 .ensures)
+
+same-length-2 : tie.Need-same-length-2
+same-length-2 c = search needs
+
+returns-2 : tie.Need-returns-2
+returns-2 c =
+    let s = c .before .before .before .before in lined-at (sums s) (s .args .j) (s .args .log) 2 (c .before .before .before .match .keys2) (c .before .itx-pb4b1 .ensures)
+
+same-length-3 : tie.Need-same-length-3
+same-length-3 c = search needs
+
+returns-3 : tie.Need-returns-3
+returns-3 c =
+    let s = c .before .before .before .before in lined-at (sums s) (s .args .j) (s .args .log) 3 (c .before .before .before .match .keys3) (c .before .itx-pb8b1 .ensures)
+
+same-length-4 : tie.Need-same-length-4
+same-length-4 c = search needs
+
+returns-4 : tie.Need-returns-4
+returns-4 c = let s = c .before .before .before .before in lined-at (sums s) (s .args .j) (s .args .log) 4 (omega arith) (c .before .itx-pb16b1 .ensures)
+
+pub short-line-spec : {M : Type 1} → statement M
+short-line-spec =
+    tie.close
+    (tie.spec
+    itx-pb2b1-requires
+    itx-pb4b1-requires
+    itx-pb8b1-requires
+    itx-pb16b1-requires
+    same-length
+    returns
+    same-length-2
+    returns-2
+    same-length-3
+    returns-3
+    same-length-4
+    returns-4)

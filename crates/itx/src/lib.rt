@@ -1,0 +1,10 @@
+// Both stages of the inverse transform. A line is gathered, its sums are made by halving, and they are stored.
+mod gather;
+mod line;
+mod own;
+mod stage_one;
+mod stage_two;
+mod store;
+
+pub use stage_one::itxb0;
+pub use stage_two::itxb1;

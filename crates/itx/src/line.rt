@@ -1,0 +1,131 @@
+// The sums of one line, by halving: the bodies of the Rust's `itx_pb2b0` .. `itx_pb64b0` and `itx_pb2b1` .. `itx_pb64b1`, which differ only in
+// their input and in their tail. Document 01, "The two stages"; document 02, request Ten, for the tables.
+// Differs from the Rust in: one halving step for every size; any table with the mirror property, row k at place k·w; size 2 is read from the table.
+ghost use mathlib.Core.Path.{_≡_};
+ghost use Prim.Native.Nat.{_+_, _<_};
+ghost use lib.ListN.{length};
+ghost use Rattle.itx.specs.Line.{rows, line, odd, Small, Term, Inputs, Table, Level, Sums, Part};
+
+// A table's number times an input.
+fn term(t: &[i8], x: &[i64], at: usize, i: usize) -> i64
+    requires { ⌜ (at < length (now t)) × Small (now x) i ⌝ }
+    ensures { λ r. ⌜ Term (now (t .entry)) at (now (x .entry)) i r ⌝ }
+{
+    (t[at] as i64) * x[i]
+}
+
+// The odd half at place n: the rows and the inputs at odd multiples of q.
+fn odd_sum(t: &[i8], w: usize, x: &[i64], m: usize, q: usize, n: usize) -> i64
+    requires { ⌜ Level (now t) w (now x) m q × (n < m) ⌝ }
+    ensures { λ r. ⌜ r ≡ odd (rows (now (t .entry)) w) q m n (line (now (x .entry))) ⌝ }
+{
+    let mut sum: i64 = 0;
+    for k in 0..m {
+        let d = (2 * k + 1) * q;
+        sum = sum + term(t, x, d * w + n, d);
+    }
+    sum
+}
+
+// The halving at place n and its mirror: the sum and the difference of the halves.
+fn step(t: &[i8], w: usize, x: &[i64], e: &mut [i64], m: usize, q: usize, n: usize)
+    requires { ⌜ (Level (now t) w (now x) m q × (n < m)) × Part (now e) (rows (now t) w) q m n (now x) ⌝ }
+    ensures { λ _. ⌜ Part (now (e .exit)) (rows (now (t .entry)) w) q m (n + 1) (now (x .entry)) ⌝ }
+{
+    let o = odd_sum(t, w, x, m, q, n);
+    let v = e[n];
+    e[n] = v + o;
+    e[2 * m - 1 - n] = v - o;
+}
+
+// The halving step, from the product of size m, with every second row and input, to that of size 2m.
+fn level(t: &[i8], w: usize, x: &[i64], e: &mut [i64], m: usize, q: usize)
+    requires { ⌜ Level (now t) w (now x) m q × Sums (now e) (rows (now t) w) (q + q) m (now x) ⌝ }
+    ensures { λ _. ⌜ Sums (now (e .exit)) (rows (now (t .entry)) w) q (m + m) (now (x .entry)) ⌝ }
+{
+    for n in 0..m {
+        step(t, w, x, e, m, q, n);
+    }
+}
+
+// The same from size 8 to 16, written out: so a compiler sees which numbers of the table it reads.
+fn level8(t: &[i8], w: usize, x: &[i64], e: &mut [i64], q: usize)
+    requires { ⌜ Level (now t) w (now x) 8 q × Sums (now e) (rows (now t) w) (q + q) 8 (now x) ⌝ }
+    ensures { λ _. ⌜ Sums (now (e .exit)) (rows (now (t .entry)) w) q 16 (now (x .entry)) ⌝ }
+{
+    step(t, w, x, e, 8, q, 0);
+    step(t, w, x, e, 8, q, 1);
+    step(t, w, x, e, 8, q, 2);
+    step(t, w, x, e, 8, q, 3);
+    step(t, w, x, e, 8, q, 4);
+    step(t, w, x, e, 8, q, 5);
+    step(t, w, x, e, 8, q, 6);
+    step(t, w, x, e, 8, q, 7);
+}
+
+// The product of size 2, of the inputs at 0 and q: four numbers of the table.
+fn start(t: &[i8], w: usize, x: &[i64], e: &mut [i64], q: usize)
+    requires { ⌜ (Table (now t) w (q + q) × Inputs (now x) (q + q)) × ((0 < q) × (length (now e) ≡ q + q)) ⌝ }
+    ensures { λ _. ⌜ Sums (now (e .exit)) (rows (now (t .entry)) w) q 2 (now (x .entry)) ⌝ }
+{
+    e[0] = term(t, x, 0, 0) + term(t, x, q * w, q);
+    e[1] = term(t, x, 1, 0) + term(t, x, q * w + 1, q);
+}
+
+// A line of each size. The numbers are literals, so that a compiler unrolls each size by itself.
+pub(crate) fn line2(t: &[i8], w: usize, x: &[i64], e: &mut [i64])
+    requires { ⌜ (Table (now t) w 2 × Inputs (now x) 2) × (length (now e) ≡ 2) ⌝ }
+    ensures { λ _. ⌜ Sums (now (e .exit)) (rows (now (t .entry)) w) 1 2 (now (x .entry)) ⌝ }
+{
+    start(t, w, x, e, 1);
+}
+
+pub(crate) fn line4(t: &[i8], w: usize, x: &[i64], e: &mut [i64])
+    requires { ⌜ (Table (now t) w 4 × Inputs (now x) 4) × (length (now e) ≡ 4) ⌝ }
+    ensures { λ _. ⌜ Sums (now (e .exit)) (rows (now (t .entry)) w) 1 4 (now (x .entry)) ⌝ }
+{
+    start(t, w, x, e, 2);
+    level(t, w, x, e, 2, 1);
+}
+
+pub(crate) fn line8(t: &[i8], w: usize, x: &[i64], e: &mut [i64])
+    requires { ⌜ (Table (now t) w 8 × Inputs (now x) 8) × (length (now e) ≡ 8) ⌝ }
+    ensures { λ _. ⌜ Sums (now (e .exit)) (rows (now (t .entry)) w) 1 8 (now (x .entry)) ⌝ }
+{
+    start(t, w, x, e, 4);
+    level(t, w, x, e, 2, 2);
+    level(t, w, x, e, 4, 1);
+}
+
+pub(crate) fn line16(t: &[i8], w: usize, x: &[i64], e: &mut [i64])
+    requires { ⌜ (Table (now t) w 16 × Inputs (now x) 16) × (length (now e) ≡ 16) ⌝ }
+    ensures { λ _. ⌜ Sums (now (e .exit)) (rows (now (t .entry)) w) 1 16 (now (x .entry)) ⌝ }
+{
+    start(t, w, x, e, 8);
+    level(t, w, x, e, 2, 4);
+    level(t, w, x, e, 4, 2);
+    level8(t, w, x, e, 1);
+}
+
+pub(crate) fn line32(t: &[i8], w: usize, x: &[i64], e: &mut [i64])
+    requires { ⌜ (Table (now t) w 32 × Inputs (now x) 32) × (length (now e) ≡ 32) ⌝ }
+    ensures { λ _. ⌜ Sums (now (e .exit)) (rows (now (t .entry)) w) 1 32 (now (x .entry)) ⌝ }
+{
+    start(t, w, x, e, 16);
+    level(t, w, x, e, 2, 8);
+    level(t, w, x, e, 4, 4);
+    level(t, w, x, e, 8, 2);
+    level(t, w, x, e, 16, 1);
+}
+
+pub(crate) fn line64(t: &[i8], w: usize, x: &[i64], e: &mut [i64])
+    requires { ⌜ (Table (now t) w 64 × Inputs (now x) 64) × (length (now e) ≡ 64) ⌝ }
+    ensures { λ _. ⌜ Sums (now (e .exit)) (rows (now (t .entry)) w) 1 64 (now (x .entry)) ⌝ }
+{
+    start(t, w, x, e, 32);
+    level(t, w, x, e, 2, 16);
+    level(t, w, x, e, 4, 8);
+    level(t, w, x, e, 8, 4);
+    level(t, w, x, e, 16, 2);
+    level(t, w, x, e, 32, 1);
+}

@@ -1,0 +1,132 @@
+-- Blocks at positions that may be negative: that an accepted call reads inside the plane; and how such a block is read where it stands, or from
+-- the packed block that holds it. Assumes nothing.
+use mathlib.Core.Path.{_≡_, refl, sym, ap, ap₂, _∙_, subst, subst₂}
+use mathlib.Core.Bool.{Bool, true, false, _||_}
+use mathlib.Core.List.{List}
+use Prim.Native.Nat.{ℕ, _+_, _*_, _-_, _≤_, _<_}
+use native.Mathlib.Nat.{add-mul, mul-le-mul-right}
+use native.Mathlib.Omega.{arith}
+use lib.IntN.{ℤ, pos, negsuc, natAbs, _+ℤ_}
+use lib.Signed.{_≤ℤ_, ltZ}
+use mir.Syntax.{w16}
+use mir.Val.{SFits, toZ, ofZ}
+use mir.Facts.{toZ-ofZ}
+use lib.ListN.{length, getD}
+use Rattle.integers.specs.Lists.{written}
+use Rattle.integers.proofs.Dif.{up, dn}
+use Rattle.integers.proofs.Bits.{lt-failed}
+use Rattle.integers.proofs.Order.{signed}
+use Rattle.integers.proofs.Written.{written-at, written-length, grid-at}
+use Rattle.order.specs.Positions.{reach}
+use Rattle.evc.specs.Planes.{edge, pastEdge, atEdges}
+use Rattle.sad.specs.Areas.{planeOf, badPlane, outsideEdges}
+use Rattle.sad.specs.Totals.{cell}
+use Rattle.sad.specs.Rests.{strided}
+use Rattle.sad.specs.Edges.{edgeCell, edgeAt, edged, EdgesIn, Plain}
+use Rattle.sad.proofs.Booleans.{or-left, or-right, WellFormed, well-formed}
+use Rattle.sad.proofs.Signed.{sum-parts, not-past, edge-up}
+use Rattle.sad.proofs.Grid.{rows-flat}
+use Rattle.sad.proofs.Replies.{Alike}
+
+-- a position that doesn't reach past a side reads below it
+edge-below : (x : ℤ) (w i side : ℕ) → 1 ≤ side → i < w → up x + w ≤ side + dn x → edge (x +ℤ pos i) < side
+edge-below x w i side s p h = go (x +ℤ pos i) (sum-parts x i)
+  where
+    go : (z : ℤ) → up z + dn x ≡ up x + i + dn z → edge z < side
+    go (pos m) e = omega arith
+    go (negsuc m) e = omega arith
+
+pub edges-in :
+    (n width height stride : ℕ) (x y : ℤ) (w h : ℕ) → (1 ≤ w) × (w ≤ 64) → (1 ≤ h) × (h ≤ 64) → outsideEdges n width height stride x y w h ≡ false →
+    EdgesIn n stride x y w h
+edges-in n width height stride x y w h p q e =
+    let bad = badPlane n width height stride in
+    let two = or-left (bad || pastEdge x w width) (pastEdge y h height) e in
+    let f = well-formed n width height stride (or-left bad (pastEdge x w width) two) in
+    let a = not-past x w width (or-right bad (pastEdge x w width) two) in
+    let b = not-past y h height (or-right (bad || pastEdge x w width) (pastEdge y h height) e) in
+    record {
+      wide = p .0;
+      high = q .0;
+      narrow = p .1;
+      low = q .1;
+      reads =
+          λ j i m k.
+          let c = edge-below x w i width (f .wide .0) k a in
+          let d = edge-below y h j height (f .high .0) m b in
+          let g : edge (y +ℤ pos j) * stride ≤ (height - 1) * stride = mul-le-mul-right stride (omega arith) in
+          omega (arith, f .long);
+    }
+
+-- the definitions read the same
+pub edges-alike : (l : List ℕ) (width height stride : ℕ) (x y : ℤ) (w h depth : ℕ) → Alike w h (edged l stride x y depth) (atEdges (planeOf l width height stride) x y w h depth)
+unfolding edgeCell
+edges-alike l width height stride x y w h depth = record { reads = λ j i p q. refl; bad = λ v. refl }
+
+-- a signed argument that is passed on comes as its bits
+pub as-bits : (P : ℤ → ℤ → Type 0) {x y : ℤ} → SFits w16 x → SFits w16 y → P x y → P (toZ w16 (ofZ w16 x)) (toZ w16 (ofZ w16 y))
+as-bits P f g p = subst₂ P (sym (toZ-ofZ f)) (sym (toZ-ofZ g)) p
+
+pub of-bits : (P : ℤ → ℤ → Type 0) {x y : ℤ} → SFits w16 x → SFits w16 y → P (toZ w16 (ofZ w16 x)) (toZ w16 (ofZ w16 y)) → P x y
+of-bits P f g p = subst₂ P (toZ-ofZ f) (toZ-ofZ g) p
+
+pub is-plain : (x y : ℤ) → ltZ x (pos 0) || ltZ y (pos 0) ≡ false → Plain x y
+is-plain x y e =
+    let a = ltZ x (pos 0) in
+    let b = ltZ y (pos 0) in
+    record { across = lt-failed x (pos 0) (or-left a b e); down = lt-failed y (pos 0) (or-right a b e) }
+
+sum-edge : (x : ℤ) (i : ℕ) → pos 0 ≤ℤ x → edge (x +ℤ pos i) ≡ natAbs x + i
+sum-edge (pos n) i p = refl
+sum-edge (negsuc n) i p = let z : ⊥ = omega signed in absurd z
+
+-- where neither position is negative, the block stands in the plane
+module _ (l : List ℕ) (stride : ℕ) (x y : ℤ) (w h depth : ℕ) (t : Plain x y) where
+  pub plain-alike : (start : ℕ) → start ≡ natAbs y * stride + natAbs x → Alike w h (strided l start stride depth) (edged l stride x y depth)
+  unfolding cell edgeCell
+  plain-alike start e = record {
+    reads =
+        λ j i m n.
+        let d = add-mul (natAbs y) j stride in
+        let f : start + j * stride + i ≡ (natAbs y + j) * stride + (natAbs x + i) = omega arith in
+        ap (λ (k : ℕ). pos (getD l k 0)) (f ∙ sym (ap₂ (λ (a b : ℕ). a * stride + b) (sum-edge y j (t .down)) (sum-edge x i (t .across))));
+    bad = λ v. refl;
+  }
+
+  pub plain-inside : EdgesIn (length l) stride x y w h → reach (natAbs y * stride + natAbs x) w stride h ≤ length l
+  plain-inside k =
+      let a = k .wide in
+      let b = k .high in
+      let last = k .reads (h - 1) (w - 1) (omega arith) (omega arith) in
+      let e = ap₂ (λ (a b : ℕ). a * stride + b) (sum-edge y (h - 1) (t .down)) (sum-edge x (w - 1) (t .across)) in
+      let d = add-mul (natAbs y) (h - 1) stride in
+      omega arith
+
+-- the packed block that was filled
+pub filled-alike :
+    (l : List ℕ) (stride : ℕ) (x y : ℤ) (w h depth : ℕ) (z : List ℕ) →
+    Alike w h (strided (written (h * w) (edgeAt l stride x y w) z) 0 w depth) (edged l stride x y depth)
+unfolding cell edgeAt
+filled-alike l stride x y w h depth z = record {
+  reads =
+      λ j i m n.
+      let e : 0 + j * w + i ≡ j * w + i = omega arith in
+      ap pos
+      (ap (λ (k : ℕ). getD (written (h * w) (edgeAt l stride x y w) z) k 0) e
+      ∙ written-at (h * w) (edgeAt l stride x y w) z (j * w + i) 0 (place j i m n) ∙ grid-at (edgeCell l stride x y) j i w n);
+  bad = λ v. refl;
+}
+  where
+    place : (j i : ℕ) → j < h → i < w → j * w + i < h * w
+    place j i m n =
+        let a : (j + 1) * w ≤ h * w = mul-le-mul-right w (omega arith) in
+        let b = add-mul j 1 w in
+        omega arith
+
+-- as a call that filled it leaves it: long enough, and read alike
+module _ (l : List ℕ) (stride : ℕ) (x y : ℤ) (w h depth : ℕ) (z block : List ℕ) (e : block ≡ written (h * w) (edgeAt l stride x y w) z) where
+  pub filled-in : Alike w h (strided block 0 w depth) (edged l stride x y depth)
+  filled-in = subst (λ (b : List ℕ). Alike w h (strided b 0 w depth) (edged l stride x y depth)) (sym e) (filled-alike l stride x y w h depth z)
+
+  pub filled-long : 1 ≤ h → h * w ≤ length z → reach 0 w w h ≤ length block
+  filled-long p q = omega (arith, rows-flat w h p, ap length e, written-length (h * w) (edgeAt l stride x y w) z q)

@@ -1,0 +1,103 @@
+-- `sad_rows` meets its contract. Assumes nothing.
+use Prim.Native.Nat.{ℕ, _+_, _-_, _*_, _≤_, _<_}
+use native.Mathlib.Omega.{arith}
+use mathlib.Core.Path.{_≡_, refl, sym, ap, _∙_}
+use mathlib.Core.List.{List}
+use lib.Bits.{bitOr}
+use lib.ListN.{length, getD}
+use Rattle.integers.specs.Sum.{sumN}
+use Rattle.sad.specs.Or.{orN}
+use Rattle.sad.specs.Totals.{Told, apart, cell}
+use Rattle.sad.proofs.Samples.{apart-le}
+use Rattle.sad.proofs.Running.{Running, running-start, running-step, running-end, running-next}
+use Rattle.sad.proofs.Cells.{in-one, in-two, two-rows, told-rows, row-most}
+use Rattle.sad.proofs.blocks.sad_rows.Statement.{statement}
+use Rattle.sad.proofs.blocks.sad_rows.Tie as tie
+use Rattle.sad.proofs.blocks.sad_rows.Reads as reads
+use Rattle.sad.proofs.blocks.sad_rows.Lts as lts
+use Rattle.sad.proofs.rows.row.Reads as row-reads
+use Rattle.sad.proofs.rows.sad_row.Reads as sad-row-reads
+
+abbrev Inv-loop : tie.InvT-loop
+Inv-loop a a-at a-stride b b-at b-stride w h sum₀ any₀ j₀ sum any j =
+    Running h (λ j. sumN w (λ i. apart (cell 0 a a-at a-stride j i) (cell 0 b b-at b-stride j i)))
+    (λ j. orN w (λ i. bitOr (cell 0 a a-at a-stride j i) (cell 0 b b-at b-stride j i))) sum any j
+
+abbrev μ-loop : tie.MeasureT-loop
+μ-loop a a-at a-stride b b-at b-stride w h sum₀ any₀ j₀ sum any j = h - j
+
+loop-holds : tie.Need-loop-holds Inv-loop μ-loop
+loop-holds c = running-start
+
+row-requires : tie.Need-row-requires Inv-loop μ-loop
+row-requires c κs = in-one (c .before .before .before .before .pre) (omega arith)
+
+row-requires-2 : tie.Need-row-requires-2 Inv-loop μ-loop
+row-requires-2 c κs = in-two (c .before .before .before .before .before .pre) (omega arith)
+
+sad-row-requires : tie.Need-sad-row-requires Inv-loop μ-loop
+sad-row-requires c κs =
+    let a = c .before .before .before .before .before .before .args in
+    two-rows (a .w) (a .h) (a .a .now) (a .a-at) (a .a-stride) (a .b .now) (a .b-at) (a .b-stride) (c .before .before .before .before .before .before .pre)
+    (c .before .before .before .loop .j) (omega arith) (c .before .row .result .now) (c .row2 .result .now) (c .before .row .ensures) (c .row2 .ensures)
+
+-- what the rows told, said of the blocks
+told :
+    (c : tie.After-sad-row Inv-loop μ-loop) →
+    let a = c .before .before .before .before .before .before .before .args in
+    let j = c .before .before .before .before .loop .j in
+    Told (a .w) (λ i. apart (cell 0 (a .a .now) (a .a-at) (a .a-stride) j i) (cell 0 (a .b .now) (a .b-at) (a .b-stride) j i))
+    (λ i. bitOr (cell 0 (a .a .now) (a .a-at) (a .a-stride) j i) (cell 0 (a .b .now) (a .b-at) (a .b-stride) j i))
+    (c .sad-row .result .sum) (c .sad-row .result .any)
+told c =
+    let a = c .before .before .before .before .before .before .before .args in
+    told-rows apart bitOr 0 0 (a .a .now) (a .a-at) (a .a-stride) (a .b .now) (a .b-at) (a .b-stride) (c .before .before .before .before .loop .j) (a .w)
+    (c .before .before .row .result .now) (c .before .row2 .result .now) (c .before .before .row .ensures) (c .before .row2 .ensures) (c .sad-row .ensures)
+
+-- what a row adds at most
+most :
+    (c : tie.After-sad-row Inv-loop μ-loop) (j : ℕ) →
+    let a = c .before .before .before .before .before .before .before .args in
+    sumN (a .w) (λ i. apart (cell 0 (a .a .now) (a .a-at) (a .a-stride) j i) (cell 0 (a .b .now) (a .b-at) (a .b-stride) j i)) ≤ 4194240
+unfolding cell
+most c j =
+    let s = c .before .before .before .before .before .before .before in
+    let a = s .args in
+    row-most (a .w) 65535 (λ i. apart (cell 0 (a .a .now) (a .a-at) (a .a-stride) j i) (cell 0 (a .b .now) (a .b-at) (a .b-stride) j i)) (s .pre .narrow)
+    (λ i.
+    apart-le (cell 0 (a .a .now) (a .a-at) (a .a-stride) j i) (cell 0 (a .b .now) (a .b-at) (a .b-stride) j i)
+    (omega (arith, c .before .before .before .before .before .before .shared-slice-known .given (a .a-at + j * a .a-stride + i)))
+    (omega (arith, c .before .before .before .before .before .shared-slice-known2 .given (a .b-at + j * a .b-stride + i))))
+
+add-sum : tie.Need-add-sum Inv-loop μ-loop
+add-sum c =
+    omega (arith, running-next 4194240 (c .before .before .before .before .before .loop .inv) (omega arith) (told (c .before) .total) (λ j h. most (c .before) j))
+
+add-j : tie.Need-add-j Inv-loop μ-loop
+add-j c = omega arith
+
+loop-less : tie.Need-loop-less Inv-loop μ-loop
+loop-less c = omega arith
+
+loop-again : tie.Need-loop-again Inv-loop μ-loop
+loop-again c =
+    running-step (c .before .before .before .before .before .before .loop .inv) (omega arith) (told (c .before .before) .total) (told (c .before .before) .marks)
+
+returns : tie.Need-returns Inv-loop μ-loop
+returns c = running-end (c .before .loop .inv) (omega arith)
+
+pub sad-rows-spec : {M : Type 1} → statement M
+sad-rows-spec =
+    tie.close
+    (tie.spec
+    Inv-loop
+    μ-loop
+    loop-holds
+    row-requires
+    row-requires-2
+    sad-row-requires
+    add-sum
+    add-j
+    loop-less
+    loop-again
+    returns)

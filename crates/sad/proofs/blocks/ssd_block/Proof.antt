@@ -1,0 +1,58 @@
+-- `ssd_block` meets its contract. Assumes nothing.
+use borrow.Author.Needs.{needs}
+use Rattle.sad.proofs.Cells.{compared-at}
+use Rattle.sad.proofs.blocks.ssd_block.Statement.{statement}
+use Rattle.sad.proofs.blocks.ssd_block.Tie as tie
+
+ssd-rows-requires : tie.Need-ssd-rows-requires
+ssd-rows-requires c κs = search needs
+
+ssd-rows-requires-2 : tie.Need-ssd-rows-requires-2
+ssd-rows-requires-2 c κs = search needs
+
+ssd-rows-requires-3 : tie.Need-ssd-rows-requires-3
+ssd-rows-requires-3 c κs = search needs
+
+ssd-rows-requires-4 : tie.Need-ssd-rows-requires-4
+ssd-rows-requires-4 c κs = search needs
+
+ssd-rows-requires-5 : tie.Need-ssd-rows-requires-5
+ssd-rows-requires-5 c κs = search needs
+
+ssd-rows-requires-6 : tie.Need-ssd-rows-requires-6
+ssd-rows-requires-6 c κs = search needs
+
+returns : tie.Need-returns
+returns c = compared-at _ 64 _ _ _ (c .before .match .keys1) (c .ssd-rows .ensures)
+
+returns-2 : tie.Need-returns-2
+returns-2 c = compared-at _ 32 _ _ _ (c .before .match .keys2) (c .ssd-rows2 .ensures)
+
+returns-3 : tie.Need-returns-3
+returns-3 c = compared-at _ 16 _ _ _ (c .before .match .keys3) (c .ssd-rows3 .ensures)
+
+returns-4 : tie.Need-returns-4
+returns-4 c = compared-at _ 8 _ _ _ (c .before .match .keys4) (c .ssd-rows4 .ensures)
+
+returns-5 : tie.Need-returns-5
+returns-5 c = compared-at _ 4 _ _ _ (c .before .match .keys5) (c .ssd-rows5 .ensures)
+
+returns-6 : tie.Need-returns-6
+returns-6 c = search needs
+
+pub ssd-block-spec : {M : Type 1} → statement M
+ssd-block-spec =
+    tie.close
+    (tie.spec
+    ssd-rows-requires
+    ssd-rows-requires-2
+    ssd-rows-requires-3
+    ssd-rows-requires-4
+    ssd-rows-requires-5
+    ssd-rows-requires-6
+    returns
+    returns-2
+    returns-3
+    returns-4
+    returns-5
+    returns-6)

@@ -1,0 +1,92 @@
+-- `sad_row` meets its contract. Assumes nothing.
+use Prim.Native.Nat.{ℕ, _+_, _-_, _*_, _≤_, _<_}
+use native.Mathlib.Omega.{arith}
+use mathlib.Core.Path.{_≡_, refl, sym, ap, _∙_}
+use mathlib.Core.List.{List}
+use lib.Bits.{bitOr}
+use lib.ListN.{getD}
+use mir.Val.{Fits}
+use Rattle.sad.specs.Totals.{apart, squared}
+use Rattle.sad.proofs.Samples.{apart-le}
+use Rattle.sad.proofs.Running.{Running, running-start, running-step, running-end, running-next}
+use Rattle.sad.proofs.Cells.{told-most}
+use Rattle.sad.proofs.rows.sad_row.Statement.{statement}
+use Rattle.sad.proofs.rows.sad_row.Tie as tie
+use Rattle.sad.proofs.rows.sad_row.Reads as reads
+use Rattle.sad.proofs.rows.sad_row.Lts as lts
+use Rattle.sad.proofs.rows.distance.Reads as distance-reads
+
+abbrev Inv-loop : tie.InvT-loop
+Inv-loop a b w sum₀ any₀ i₀ sum any i = Running w (λ k. apart (getD a k 0) (getD b k 0)) (λ k. bitOr (getD a k 0) (getD b k 0)) sum any i
+
+abbrev μ-loop : tie.MeasureT-loop
+μ-loop a b w sum₀ any₀ i₀ sum any i = w - i
+
+loop-holds : tie.Need-loop-holds Inv-loop μ-loop
+loop-holds c = running-start
+
+mul-p : tie.Need-mul-p Inv-loop μ-loop
+mul-p c = omega arith
+
+shared-slice-read-p : tie.Need-shared-slice-read-p Inv-loop μ-loop
+shared-slice-read-p c = omega arith
+
+mul-q : tie.Need-mul-q Inv-loop μ-loop
+mul-q c = omega arith
+
+shared-slice-read-q : tie.Need-shared-slice-read-q Inv-loop μ-loop
+shared-slice-read-q c = omega arith
+
+distance-requires : tie.Need-distance-requires Inv-loop μ-loop
+distance-requires c κs = tt
+
+cast-sum : tie.Need-cast-sum Inv-loop μ-loop
+cast-sum c = omega (arith, c .distance .ok)
+
+-- no summand is above 65535, before the loop and in it
+most :
+    (c : tie.After-shared-slice-known2 Inv-loop μ-loop) (i : ℕ) →
+    apart (getD (c .before .before .args .a .now) i 0) (getD (c .before .before .args .b .now) i 0) ≤ 65535
+most c i =
+    apart-le (getD (c .before .before .args .a .now) i 0) (getD (c .before .before .args .b .now) i 0)
+    (omega (arith, c .before .shared-slice-known .given i)) (omega (arith, c .shared-slice-known2 .given i))
+
+add-sum : tie.Need-add-sum Inv-loop μ-loop
+add-sum c =
+    omega (arith, running-next 65535 (c .before .before .before .before .loop .inv) (omega arith) (c .distance .ensures) (λ i h. most (c .before .before .before .before .before) i))
+
+add-i : tie.Need-add-i Inv-loop μ-loop
+add-i c = omega arith
+
+loop-less : tie.Need-loop-less Inv-loop μ-loop
+loop-less c = omega arith
+
+loop-again : tie.Need-loop-again Inv-loop μ-loop
+loop-again c = running-step (c .before .before .before .before .loop .inv) (omega arith) (c .distance .ensures) refl
+
+cast-all : tie.Need-cast-all Inv-loop μ-loop
+cast-all c =
+    omega (arith, told-most 65535 (running-end (c .before .loop .inv) (omega arith)) (c .before .before .before .before .pre .small) (λ i. most (c .before .before) i))
+
+returns : tie.Need-returns Inv-loop μ-loop
+returns c = running-end (c .before .loop .inv) (omega arith)
+
+pub sad-row-spec : {M : Type 1} → statement M
+sad-row-spec =
+    tie.close
+    (tie.spec
+    Inv-loop
+    μ-loop
+    loop-holds
+    mul-p
+    shared-slice-read-p
+    mul-q
+    shared-slice-read-q
+    distance-requires
+    cast-sum
+    add-sum
+    add-i
+    loop-less
+    loop-again
+    cast-all
+    returns)

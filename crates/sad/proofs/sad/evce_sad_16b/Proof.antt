@@ -1,0 +1,138 @@
+-- `evce_sad_16b` meets its contract: each refusal is the first broken test, and what is left is read alike. Assumes nothing.
+use mathlib.Core.Path.{_≡_, refl, sym, ap, _∙_}
+use mathlib.Core.Bool.{false, _||_}
+use Prim.Native.Nat.{ℕ, _+_, _*_, _-_, _/_, _^_, _≤_, _<_}
+use native.Mathlib.Omega.{arith}
+use borrow.Author.Needs.{needs}
+use lib.ListN.{length}
+use Rattle.evc.specs.Answers.{distortionReading}
+use Rattle.evc.specs.Tests.{outside}
+use Rattle.evc.specs.Differences.{difference, sadTotal}
+use Rattle.sad.specs.Areas.{outsidePlane, outsideEdges}
+use Rattle.sad.specs.Rests.{strided, rest}
+use Rattle.sad.specs.Edges.{edged, AtEdges}
+use Rattle.sad.proofs.Booleans.{inside, or-left, or-right}
+use Rattle.sad.proofs.Planes.{Inside, is-inside, rows-inside, plane-alike}
+use Rattle.sad.proofs.Replies.{Alike, rest-alike, sad-alike, sad-size, sad-depth, sad-area, sad-second, sad-rest}
+use Rattle.sad.proofs.AtEdges.{edges-in, edges-alike, as-bits, of-bits}
+use Rattle.sad.proofs.sad.evce_sad_16b.Statement.{statement}
+use Rattle.sad.proofs.sad.evce_sad_16b.Tie as tie
+
+-- what each test that was left says
+sized : (c : tie.Else1) → let a = c .before .before .before .before .args in outside 1 64 (a .w) || outside 1 64 (a .h) ≡ false
+sized c = sym (c .before .sides .ensures) ∙ c .if1 .left
+
+deep : (c : tie.Else2) → outside 8 14 (c .before .before .before .before .before .before .args .depth) ≡ false
+deep c = sym (c .before .wrong-depth .ensures) ∙ c .if2 .left
+
+one : (c : tie.Else3) → let a = c .before .before .before .before .before .before .before .before .args in outsidePlane (length (a .org .now)) (a .width) (a .height) (a .stride) (a .x) (a .y) (a .w) (a .h) ≡ false
+one c = sym (c .before .outside-plane .ensures) ∙ c .if3 .left
+
+-- the positions come as their bits
+farBits :
+    (c : tie.After-outside-edges) →
+    let a = c .before .before .before .before .before .before .before .before .before .args in
+    c .outside-edges .result ≡ outsideEdges (length (a .reference .now)) (a .ref-width) (a .ref-height) (a .ref-stride) (a .mv-x) (a .mv-y) (a .w) (a .h)
+farBits c =
+    let s = c .before .before .before .before .before .before .before .before .before in
+    let a = s .args in
+    of-bits (λ x y. c .outside-edges .result ≡ outsideEdges (length (a .reference .now)) (a .ref-width) (a .ref-height) (a .ref-stride) x y (a .w) (a .h))
+    (s .fits .mv-x) (s .fits .mv-y) (c .outside-edges .ensures)
+
+two :
+    (c : tie.Else4) →
+    let a = c .before .before .before .before .before .before .before .before .before .before .args in
+    outsideEdges (length (a .reference .now)) (a .ref-width) (a .ref-height) (a .ref-stride) (a .mv-x) (a .mv-y) (a .w) (a .h) ≡ false
+two c = sym (farBits (c .before)) ∙ c .if4 .left
+
+sides-requires : tie.Need-sides-requires
+sides-requires c κs = search needs
+
+returns : tie.Need-returns
+returns c = sad-size _ _ _ _ _ (sym (c .before .sides .ensures) ∙ c .if1 .taken)
+
+wrong-depth-requires : tie.Need-wrong-depth-requires
+wrong-depth-requires c κs = search needs
+
+returns-2 : tie.Need-returns-2
+returns-2 c = sad-depth _ _ _ _ _ (sized (c .before .before)) (sym (c .before .wrong-depth .ensures) ∙ c .if2 .taken)
+
+outside-plane-requires : tie.Need-outside-plane-requires
+outside-plane-requires c κs = search needs
+
+returns-3 : tie.Need-returns-3
+returns-3 c =
+    sad-area _ _ _ _ _ (sized (c .before .before .before .before)) (deep (c .before .before)) (sym (c .before .outside-plane .ensures) ∙ c .if3 .taken)
+
+outside-edges-requires : tie.Need-outside-edges-requires
+outside-edges-requires c κs = search needs
+
+returns-4 : tie.Need-returns-4
+returns-4 c =
+    sad-second _ _ _ _ _ (sized (c .before .before .before .before .before .before)) (deep (c .before .before .before .before)) (one (c .before .before))
+    (sym (farBits (c .before)) ∙ c .if4 .taken)
+
+-- so the first block lies inside its buffer, and the second reads inside the plane
+ready :
+    (c : tie.Else4) →
+    let a = c .before .before .before .before .before .before .before .before .before .before .args in
+    AtEdges (a .w) (a .h) (length (a .org .now)) (a .y * a .stride + a .x) (a .stride) (length (a .reference .now)) (a .ref-stride) (a .mv-x) (a .mv-y) (a .depth)
+ready c =
+    let a = c .before .before .before .before .before .before .before .before .before .before .args in
+    let s = sized (c .before .before .before .before .before .before) in
+    let w = inside 1 64 (a .w) (or-left (outside 1 64 (a .w)) (outside 1 64 (a .h)) s) in
+    let h = inside 1 64 (a .h) (or-right (outside 1 64 (a .w)) (outside 1 64 (a .h)) s) in
+    record {
+      one =
+          rows-inside (length (a .org .now)) (a .width) (a .height) (a .stride) (a .x) (a .y) (a .w) (a .h) (h .0)
+          (is-inside (length (a .org .now)) (a .width) (a .height) (a .stride) (a .x) (a .y) (a .w) (a .h) (one (c .before .before)));
+      two = edges-in (length (a .reference .now)) (a .ref-width) (a .ref-height) (a .ref-stride) (a .mv-x) (a .mv-y) (a .w) (a .h) w h (two c);
+      deep = inside 8 14 (a .depth) (deep (c .before .before .before .before));
+    }
+
+mul-of-edges : tie.Need-mul-of-edges
+mul-of-edges c = omega (arith, ready c .one)
+
+add-of-edges : tie.Need-add-of-edges
+add-of-edges c = omega (arith, ready c .one)
+
+of-edges-requires : tie.Need-of-edges-requires
+of-edges-requires c κs =
+    let s = c .before .before .before .before .before .before .before .before .before .before in
+    let a = s .args in
+    as-bits
+    (λ x y. AtEdges (a .w) (a .h) (length (a .org .now)) (a .y * a .stride + a .x) (a .stride) (length (a .reference .now)) (a .ref-stride) x y (a .depth))
+    (s .fits .mv-x) (s .fits .mv-y) (ready c)
+
+returns-5 : tie.Need-returns-5
+returns-5 c =
+    let s = c .before .before .before .before .before .before .before .before .before .before .before in
+    let a = s .args in
+    let A = strided (a .org .now) (a .y * a .stride + a .x) (a .stride) (a .depth) in
+    let p = plane-alike (a .org .now) (a .width) (a .height) (a .stride) (a .x) (a .y) (a .w) (a .h) (a .depth) (a .y * a .stride + a .x) refl in
+    let q = edges-alike (a .reference .now) (a .ref-width) (a .ref-height) (a .ref-stride) (a .mv-x) (a .mv-y) (a .w) (a .h) (a .depth) in
+    of-bits
+    (λ x y.
+    let B = edged (a .reference .now) (a .ref-stride) x y (a .depth) in
+    distortionReading (c .of-edges .result) ≡ rest (a .w) (a .h) A B (sadTotal (a .w) (a .h) (difference A B) / 2 ^ (a .depth - 8)))
+    (s .fits .mv-x) (s .fits .mv-y) (c .of-edges .ensures)
+    ∙ rest-alike p q _ _ (ap (λ (n : ℕ). n / 2 ^ (a .depth - 8)) (sad-alike p q))
+    ∙ sad-rest _ _ _ _ _ (sized (c .before .before .before .before .before .before .before)) (deep (c .before .before .before .before .before))
+    (one (c .before .before .before)) (two (c .before))
+
+pub evce-sad-16b-spec : {M : Type 1} → statement M
+evce-sad-16b-spec =
+    tie.close
+    (tie.spec
+    sides-requires
+    returns
+    wrong-depth-requires
+    returns-2
+    outside-plane-requires
+    returns-3
+    outside-edges-requires
+    returns-4
+    mul-of-edges
+    add-of-edges
+    of-edges-requires
+    returns-5)

@@ -1,0 +1,157 @@
+-- `evce_ssd_16b` meets its contract: each refusal is the first broken test, and what is left is read alike. Assumes nothing.
+use mathlib.Core.Path.{_≡_, refl, sym, ap, _∙_}
+use mathlib.Core.Bool.{false, _||_}
+use Prim.Native.Nat.{ℕ, _+_, _*_, _-_, _^_, _≤_, _<_}
+use native.Mathlib.Omega.{arith}
+use borrow.Author.Needs.{needs}
+use lib.Dec.{ltb}
+use lib.IntN.{pos}
+use lib.ListN.{length}
+use Rattle.evc.specs.Tests.{outside}
+use Rattle.evc.specs.Planes.{Block, inPlane, inPacked}
+use Rattle.sad.specs.Areas.{planeOf, outsidePlane}
+use Rattle.sad.specs.Totals.{TwoBlocks}
+use Rattle.sad.proofs.Booleans.{inside}
+use Rattle.sad.proofs.Planes.{is-inside, rows-inside, plane-alike}
+use Rattle.sad.proofs.Replies.{rest-alike, ssd-alike}
+use Rattle.sad.proofs.Logs.{logs-small, side-small, ssd-size, ssd-depth, ssd-area, ssd-second, ssd-rest}
+use Rattle.sad.proofs.ssd.evce_ssd_16b.Statement.{statement}
+use Rattle.sad.proofs.ssd.evce_ssd_16b.Tie as tie
+
+-- the two blocks, by their sides
+abbrev A : tie.After-shared-slice-known2 → ℕ → ℕ → Block
+A c w h = let a = c .before .before .args in inPlane (planeOf (a .org .now) (a .width) (a .height) (a .stride)) (a .x) (a .y) w h (a .depth)
+
+abbrev B : tie.After-shared-slice-known2 → ℕ → ℕ → Block
+B c w h = let a = c .before .before .args in inPacked (a .cur .now) w h (a .depth)
+
+-- what each test that was left says
+sized : (c : tie.Else1) → let a = c .before .before .before .before .args in ltb 6 (a .log2-w) || ltb 6 (a .log2-h) ≡ false
+sized c = sym (c .before .logs .ensures) ∙ c .if1 .left
+
+deep : (c : tie.Else2) → outside 8 14 (c .before .before .before .before .before .before .before .before .args .depth) ≡ false
+deep c = sym (c .before .wrong-depth .ensures) ∙ c .if2 .left
+
+one :
+    (c : tie.Else3) →
+    let s = c .before .before .before .before in
+    let a = s .before .before .before .before .before .before .args in
+    outsidePlane (length (a .org .now)) (a .width) (a .height) (a .stride) (a .x) (a .y) (s .before .side .result) (s .side2 .result) ≡ false
+one c = sym (c .before .outside-plane .ensures) ∙ c .if3 .left
+
+two :
+    (c : tie.Else4) →
+    let s = c .before .before .before .before .before .before in
+    let a = s .before .before .before .before .before .before .args in
+    outsidePlane (length (a .cur .now)) (s .before .side .result) (s .side2 .result) (s .before .side .result) 0 0 (s .before .side .result) (s .side2 .result)
+    ≡ false
+two c = sym (c .before .outside-plane2 .ensures) ∙ c .if4 .left
+
+logs-requires : tie.Need-logs-requires
+logs-requires c κs = search needs
+
+returns : tie.Need-returns
+returns c =
+    let a = c .before .before .before .before .args in
+    ssd-size (a .log2-w) (a .log2-h) (a .depth) (A (c .before .before)) (B (c .before .before)) (sym (c .before .logs .ensures) ∙ c .if1 .taken)
+
+side-requires : tie.Need-side-requires
+side-requires c κs = let a = c .before .before .before .before .args in logs-small (a .log2-w) (a .log2-h) (sized c) .0
+
+side-requires-2 : tie.Need-side-requires-2
+side-requires-2 c κs = let a = c .before .before .before .before .before .args in logs-small (a .log2-w) (a .log2-h) (sized (c .before)) .1
+
+wrong-depth-requires : tie.Need-wrong-depth-requires
+wrong-depth-requires c κs = search needs
+
+returns-2 : tie.Need-returns-2
+returns-2 c =
+    let s = c .before .before in
+    let a = s .before .before .before .before .before .before .args in
+    ssd-depth (a .log2-w) (a .log2-h) (a .depth) (A (s .before .before .before .before)) (B (s .before .before .before .before)) (s .before .side .result)
+    (s .side2 .result) (s .before .side .ensures) (s .side2 .ensures) (sized (s .before .before)) (sym (c .before .wrong-depth .ensures) ∙ c .if2 .taken)
+
+outside-plane-requires : tie.Need-outside-plane-requires
+outside-plane-requires c κs = search needs
+
+returns-3 : tie.Need-returns-3
+returns-3 c =
+    let s = c .before .before .before .before in
+    let a = s .before .before .before .before .before .before .args in
+    ssd-area (a .log2-w) (a .log2-h) (a .depth) (A (s .before .before .before .before)) (B (s .before .before .before .before)) (s .before .side .result)
+    (s .side2 .result) (s .before .side .ensures) (s .side2 .ensures) (sized (s .before .before)) (deep (c .before .before))
+    (sym (c .before .outside-plane .ensures) ∙ c .if3 .taken)
+
+outside-plane-requires-2 : tie.Need-outside-plane-requires-2
+outside-plane-requires-2 c κs = search needs
+
+returns-4 : tie.Need-returns-4
+returns-4 c =
+    let s = c .before .before .before .before .before .before in
+    let a = s .before .before .before .before .before .before .args in
+    ssd-second (a .log2-w) (a .log2-h) (a .depth) (A (s .before .before .before .before)) (B (s .before .before .before .before)) (s .before .side .result)
+    (s .side2 .result) (s .before .side .ensures) (s .side2 .ensures) (sized (s .before .before)) (deep (c .before .before .before .before))
+    (one (c .before .before)) (sym (c .before .outside-plane2 .ensures) ∙ c .if4 .taken)
+
+-- both blocks lie inside their buffers
+blocks :
+    (c : tie.Else4) →
+    let s = c .before .before .before .before .before .before in
+    let a = s .before .before .before .before .before .before .args in
+    TwoBlocks (s .before .side .result) (s .side2 .result) (length (a .org .now)) (a .y * a .stride + a .x) (a .stride) (length (a .cur .now)) 0
+    (s .before .side .result)
+blocks c =
+    let s = c .before .before .before .before .before .before in
+    let a = s .before .before .before .before .before .before .args in
+    let k = logs-small (a .log2-w) (a .log2-h) (sized (s .before .before)) in
+    let w = s .before .side .result in
+    let h = s .side2 .result in
+    record {
+      narrow = side-small (a .log2-w) w (s .before .side .ensures) (k .0) .1;
+      low = side-small (a .log2-h) h (s .side2 .ensures) (k .1) .1;
+      one =
+          rows-inside (length (a .org .now)) (a .width) (a .height) (a .stride) (a .x) (a .y) w h
+          (side-small (a .log2-h) h (s .side2 .ensures) (k .1) .0)
+          (is-inside (length (a .org .now)) (a .width) (a .height) (a .stride) (a .x) (a .y) w h (one (c .before .before)));
+      two = omega (arith, is-inside (length (a .cur .now)) w h w 0 0 w h (two c) .formed .long);
+    }
+
+mul-of-blocks : tie.Need-mul-of-blocks
+mul-of-blocks c = omega (arith, blocks c .one)
+
+add-of-blocks : tie.Need-add-of-blocks
+add-of-blocks c = omega (arith, blocks c .one)
+
+of-blocks-requires : tie.Need-of-blocks-requires
+of-blocks-requires c κs = (blocks c, inside 8 14 _ (deep (c .before .before .before .before)))
+
+returns-5 : tie.Need-returns-5
+returns-5 c =
+    let s = c .before .before .before .before .before .before .before in
+    let a = s .before .before .before .before .before .before .args in
+    let w = s .before .side .result in
+    let h = s .side2 .result in
+    let p = plane-alike (a .org .now) (a .width) (a .height) (a .stride) (a .x) (a .y) w h (a .depth) (a .y * a .stride + a .x) refl in
+    let q = plane-alike (a .cur .now) w h w 0 0 w h (a .depth) 0 (omega arith) in
+    c .of-blocks .ensures ∙ rest-alike p q _ _ (ap pos (ssd-alike p q (2 * (a .depth - 8))))
+    ∙ ssd-rest (a .log2-w) (a .log2-h) (a .depth) (A (s .before .before .before .before)) (B (s .before .before .before .before)) w h (s .before .side .ensures)
+    (s .side2 .ensures) (sized (s .before .before)) (deep (c .before .before .before .before .before)) (one (c .before .before .before)) (two (c .before))
+
+pub evce-ssd-16b-spec : {M : Type 1} → statement M
+evce-ssd-16b-spec =
+    tie.close
+    (tie.spec
+    logs-requires
+    returns
+    side-requires
+    side-requires-2
+    wrong-depth-requires
+    returns-2
+    outside-plane-requires
+    returns-3
+    outside-plane-requires-2
+    returns-4
+    mul-of-blocks
+    add-of-blocks
+    of-blocks-requires
+    returns-5)

@@ -1,0 +1,56 @@
+-- What two rows or two blocks of values add up to. Cited by the contracts of src/rows.rt and src/blocks.rt. Assumes nothing.
+use mathlib.Core.Path.{_≡_}
+use mathlib.Core.List.{List}
+use Prim.Native.Nat.{ℕ, _+_, _*_, _/_, _^_, _≤_}
+use lib.ListN.{length, getD, take, drop}
+use mathlib.Core.Bool.{cond}
+use lib.IntN.{ℤ, pos, natAbs, _-ℤ_}
+use Rattle.integers.specs.Sum.{sumN}
+use Rattle.order.specs.Positions.{reach}
+use Rattle.evc.specs.Planes.{tooLow}
+use Rattle.sad.specs.Or.{orN}
+
+-- of two samples: how far they are apart, and that squared and divided by 2^shift
+unfoldable pub apart : ℕ → ℕ → ℕ
+apart p q = natAbs (pos p -ℤ pos q)
+
+unfoldable pub squared : ℕ → ℕ → ℕ → ℕ
+squared shift p q = apart p q * apart p q / 2 ^ shift
+
+-- of a bi-prediction value and a sample: how far they are apart; and a mark that no depth holds where the value is too low
+unfoldable pub apartBi : ℤ → ℕ → ℕ
+apartBi v q = natAbs (v -ℤ pos q)
+
+unfoldable pub lowMark : ℤ → ℕ
+lowMark v = cond (tooLow v) 65535 0
+
+-- ---- rows
+-- two rows of w values
+pub record TwoRows {A B : Type 0} (w : ℕ) (a : List A) (b : List B) : Type 0 where
+  pub one : length a ≡ w
+  pub two : length b ≡ w
+  pub small : w ≤ 64
+
+-- what f gives at w places, added, and what g gives there, ORed
+pub record Told (w : ℕ) (f g : ℕ → ℕ) (sum any : ℕ) : Type 0 where
+  pub total : sum ≡ sumN w f
+  pub marks : any ≡ orN w g
+
+-- ---- blocks, whose rows stand a stride apart in their buffer, from a start on
+-- row j, of w values, and the value in row j, column i
+unfoldable pub rowOf : {A : Type 0} → List A → ℕ → ℕ → ℕ → ℕ → List A
+rowOf l start stride j w = take w (drop (start + j * stride) l)
+
+unfoldable pub cell : {A : Type 0} → A → List A → ℕ → ℕ → ℕ → ℕ → A
+cell d l start stride j i = getD l (start + j * stride + i) d
+
+-- two blocks of w by h lie inside buffers of m and n values
+pub record TwoBlocks (w h m start stride n start′ stride′ : ℕ) : Type 0 where
+  pub narrow : w ≤ 64
+  pub low : h ≤ 64
+  pub one : reach start w stride h ≤ m
+  pub two : reach start′ w stride′ h ≤ n
+
+-- what f gives at w by h places, added row by row, and what g gives there, ORed
+abbrev pub Compared : ℕ → ℕ → (ℕ → ℕ → ℕ) → (ℕ → ℕ → ℕ) → ℕ → ℕ → Type 0
+Compared w h f g sum any = Told h (λ j. sumN w (f j)) (λ j. orN w (g j)) sum any

@@ -1,0 +1,116 @@
+// Two blocks, row by row: the totals of SAD and SSD before a caller divides them. A block is a start and a stride in its buffer, so a packed
+// block is one whose stride is its width. Document 01, "Distortion".
+// Differs from the Rust in: the common widths are literals, for which compilers write straight vector code.
+ghost use mathlib.Core.Path.{_≡_};
+ghost use Prim.Native.Nat.{_≤_};
+ghost use lib.Bits.{bitOr};
+ghost use lib.ListN.{length};
+ghost use Rattle.sad.specs.Totals.{TwoBlocks, Compared, cell, apart, squared};
+use crate::rows::Totals;
+
+fn sad_rows(
+    a: &[u16],
+    a_at: usize,
+    a_stride: usize,
+    b: &[u16],
+    b_at: usize,
+    b_stride: usize,
+    w: usize,
+    h: usize,
+) -> Totals
+    requires { ⌜ TwoBlocks w h (length (now a)) «a_at» «a_stride» (length (now b)) «b_at» «b_stride» ⌝ }
+    ensures { λ r. ⌜ Compared w h (λ j i. apart (cell 0 (now (a .entry)) «a_at» «a_stride» j i) (cell 0 (now (b .entry)) «b_at» «b_stride» j i)) (λ j i. bitOr (cell 0 (now (a .entry)) «a_at» «a_stride» j i) (cell 0 (now (b .entry)) «b_at» «b_stride» j i)) (r .sum) (r .any) ⌝ }
+{
+    let mut sum: u64 = 0;
+    let mut any: u16 = 0;
+    for j in 0..h {
+        let t = crate::rows::sad_row(
+            crate::rows::row(a, a_at, a_stride, j, w),
+            crate::rows::row(b, b_at, b_stride, j, w),
+            w,
+        );
+        sum = sum + t.sum;
+        any = any | t.any;
+    }
+    Totals { sum: sum, any: any }
+}
+
+// SAD: the absolute differences, added.
+pub(crate) fn sad_block(
+    a: &[u16],
+    a_at: usize,
+    a_stride: usize,
+    b: &[u16],
+    b_at: usize,
+    b_stride: usize,
+    w: usize,
+    h: usize,
+) -> Totals
+    requires { ⌜ TwoBlocks w h (length (now a)) «a_at» «a_stride» (length (now b)) «b_at» «b_stride» ⌝ }
+    ensures { λ r. ⌜ Compared w h (λ j i. apart (cell 0 (now (a .entry)) «a_at» «a_stride» j i) (cell 0 (now (b .entry)) «b_at» «b_stride» j i)) (λ j i. bitOr (cell 0 (now (a .entry)) «a_at» «a_stride» j i) (cell 0 (now (b .entry)) «b_at» «b_stride» j i)) (r .sum) (r .any) ⌝ }
+{
+    match w {
+        64 => sad_rows(a, a_at, a_stride, b, b_at, b_stride, 64, h),
+        32 => sad_rows(a, a_at, a_stride, b, b_at, b_stride, 32, h),
+        16 => sad_rows(a, a_at, a_stride, b, b_at, b_stride, 16, h),
+        8 => sad_rows(a, a_at, a_stride, b, b_at, b_stride, 8, h),
+        4 => sad_rows(a, a_at, a_stride, b, b_at, b_stride, 4, h),
+        _ => sad_rows(a, a_at, a_stride, b, b_at, b_stride, w, h),
+    }
+}
+
+fn ssd_rows(
+    a: &[u16],
+    a_at: usize,
+    a_stride: usize,
+    b: &[u16],
+    b_at: usize,
+    b_stride: usize,
+    w: usize,
+    h: usize,
+    shift: u8,
+) -> Totals
+    requires { ⌜ TwoBlocks w h (length (now a)) «a_at» «a_stride» (length (now b)) «b_at» «b_stride» ⌝ }
+    requires { ⌜ shift ≤ 12 ⌝ }
+    ensures { λ r. ⌜ Compared w h (λ j i. squared shift (cell 0 (now (a .entry)) «a_at» «a_stride» j i) (cell 0 (now (b .entry)) «b_at» «b_stride» j i)) (λ j i. bitOr (cell 0 (now (a .entry)) «a_at» «a_stride» j i) (cell 0 (now (b .entry)) «b_at» «b_stride» j i)) (r .sum) (r .any) ⌝ }
+{
+    let mut sum: u64 = 0;
+    let mut any: u16 = 0;
+    for j in 0..h {
+        let t = crate::rows::ssd_row(
+            crate::rows::row(a, a_at, a_stride, j, w),
+            crate::rows::row(b, b_at, b_stride, j, w),
+            w,
+            shift,
+        );
+        sum = sum + t.sum;
+        any = any | t.any;
+    }
+    Totals { sum: sum, any: any }
+}
+
+// SSD: the squared differences, each divided by 2^shift, added.
+pub(crate) fn ssd_block(
+    a: &[u16],
+    a_at: usize,
+    a_stride: usize,
+    b: &[u16],
+    b_at: usize,
+    b_stride: usize,
+    w: usize,
+    h: usize,
+    shift: u8,
+) -> Totals
+    requires { ⌜ TwoBlocks w h (length (now a)) «a_at» «a_stride» (length (now b)) «b_at» «b_stride» ⌝ }
+    requires { ⌜ shift ≤ 12 ⌝ }
+    ensures { λ r. ⌜ Compared w h (λ j i. squared shift (cell 0 (now (a .entry)) «a_at» «a_stride» j i) (cell 0 (now (b .entry)) «b_at» «b_stride» j i)) (λ j i. bitOr (cell 0 (now (a .entry)) «a_at» «a_stride» j i) (cell 0 (now (b .entry)) «b_at» «b_stride» j i)) (r .sum) (r .any) ⌝ }
+{
+    match w {
+        64 => ssd_rows(a, a_at, a_stride, b, b_at, b_stride, 64, h, shift),
+        32 => ssd_rows(a, a_at, a_stride, b, b_at, b_stride, 32, h, shift),
+        16 => ssd_rows(a, a_at, a_stride, b, b_at, b_stride, 16, h, shift),
+        8 => ssd_rows(a, a_at, a_stride, b, b_at, b_stride, 8, h, shift),
+        4 => ssd_rows(a, a_at, a_stride, b, b_at, b_stride, 4, h, shift),
+        _ => ssd_rows(a, a_at, a_stride, b, b_at, b_stride, w, h, shift),
+    }
+}

@@ -1,0 +1,71 @@
+// Blocks at positions that may be negative: each negative row or column reads as 0, sample by sample, into a packed block. Document 01,
+// "Distortion": where the Rust takes the larger of a position and 0.
+// Differs from the Rust in: positions are added in 32 bits, so that nothing wraps at 32767; the block is read once, before it is compared.
+ghost use mathlib.Core.Path.{_≡_};
+ghost use Prim.Native.Nat.{_+_, _*_, _^_, _<_, _≤_};
+ghost use mathlib.Core.Bool.{_||_};
+ghost use lib.IntN.{pos, natAbs, _+ℤ_};
+ghost use lib.Signed.{ltZ};
+ghost use lib.ListN.{length, getD};
+ghost use Rattle.integers.specs.Lists.{tab, written};
+ghost use Rattle.evc.specs.Planes as plane;
+ghost use Rattle.sad.specs.Edges.{edgeAt, RowEdges, EdgesIn, Plain};
+
+// Where the i-th position from p on reads: the larger of it and 0.
+fn edge(p: i16, i: usize) -> usize
+    requires { ⌜ i < 64 ⌝ }
+    ensures { λ r. ⌜ r ≡ plane.edge (p +ℤ pos i) ⌝ }
+{
+    let at = (p as i32) + (i as i32);
+    if at < 0 { 0 } else { at as usize }
+}
+
+// One row of the plane l, that starts at base.
+fn edge_row(l: &[u16], base: usize, x: i16, w: usize, out: &mut [u16])
+    requires { ⌜ RowEdges (length (now l)) base x w ⌝ }
+    requires { ⌜ length (now out) ≡ w ⌝ }
+    ensures { λ _. ⌜ now (out .exit) ≡ tab w (λ i. getD (now (l .entry)) (base + plane.edge (x +ℤ pos i)) 0) ⌝ }
+{
+    for i in 0..w {
+        let at = base + edge(x, i);
+        out[i] = l[at];
+    }
+}
+
+// The block, row after row, into the first places of out.
+pub(crate) fn edge_block(
+    l: &[u16],
+    stride: usize,
+    x: i16,
+    y: i16,
+    w: usize,
+    h: usize,
+    out: &mut [u16],
+)
+    requires { ⌜ EdgesIn (length (now l)) stride x y w h ⌝ }
+    requires { ⌜ h * w ≤ length (now out) ⌝ }
+    ensures { λ _. ⌜ now (out .exit) ≡ written (h * w) (edgeAt (now (l .entry)) stride x y w) (now (out .entry)) ⌝ }
+{
+    for j in 0..h {
+        let base = edge(y, j) * stride;
+        let from = j * w;
+        let to = from + w;
+        edge_row(l, base, x, w, &mut out[from..to]);
+    }
+}
+
+// Either position is negative.
+pub(crate) fn negative(x: i16, y: i16) -> bool
+    ensures { λ r. ⌜ r ≡ ltZ x (pos 0) || ltZ y (pos 0) ⌝ }
+{
+    if x < 0 { true } else { y < 0 }
+}
+
+// Where a block stands in its plane, if neither position is negative.
+pub(crate) fn start(stride: usize, x: i16, y: i16) -> usize
+    requires { ⌜ Plain x y ⌝ }
+    requires { ⌜ natAbs y * stride + natAbs x < 2 ^ 64 ⌝ }
+    ensures { λ r. ⌜ r ≡ natAbs y * stride + natAbs x ⌝ }
+{
+    (y as usize) * stride + (x as usize)
+}
