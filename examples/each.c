@@ -79,6 +79,12 @@ static void distortion(void)
     for (int i = 0; i < 64; i++)
         ones[i] = 1;
     uint32_t value = 77;
+    IS(tv_satd(ones, 64, 8, 8, 8, 0, 0, 8, 8, none, 64, 8, &value), TV_ACCEPTED);
+    IS(value, 4);
+    value = 77;
+    IS(tv_satd(ones, 64, 8, 8, 8, 0, 0, 8, 7, none, 64, 8, &value), TV_SIZE);
+    IS(value, 77);
+
     const uint16_t fours[4] = {4, 4, 4, 4}, line[2] = {1, 2};
     int64_t squares = 77;
     IS(tv_ssd_16b(fours, 4, 2, 2, 2, 0, 0, 1, 1, none, 4, 10, &squares), TV_ACCEPTED);

@@ -100,6 +100,13 @@ uint8_t tv_diff(const uint16_t *org, size_t org_len, size_t width, size_t height
                 size_t diff_len);
 
 /*
+ * SATD of w by h samples, both even, 2..64: in tiles of 8 by 8 if both are multiples of 8, else 4 by 4 if both are
+ * multiples of 4, else 2 by 2; the total divided by 2^(depth-8), rounded down. Refuses SIZE, DEPTH, AREA, SAMPLE.
+ */
+uint8_t tv_satd(const uint16_t *org, size_t org_len, size_t width, size_t height, size_t stride, size_t x, size_t y,
+                size_t w, size_t h, const uint16_t *cur, size_t cur_len, uint8_t depth, uint32_t *value);
+
+/*
  * SSD, logs 0..6: each squared difference is divided by 2^(2*(depth-8)), rounded down, then added.
  * Refuses SIZE, DEPTH, AREA, SAMPLE.
  */

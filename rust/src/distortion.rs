@@ -44,6 +44,25 @@ pub fn diff(
     })
 }
 
+/// SATD of the plane's block at `(x, y)`, `w` by `h`, and the packed block `cur`. Sides are even, 2..=64.
+///
+/// ```
+/// use tashvelun::{satd, Plane, Refusal};
+/// assert_eq!(satd(Plane::packed(&[1; 64], 8, 8), 0, 0, 8, 8, &[0; 64], 8), Ok(4));
+/// assert_eq!(satd(Plane::packed(&[1; 64], 8, 8), 0, 0, 8, 7, &[0; 64], 8), Err(Refusal::Size));
+/// ```
+#[allow(clippy::too_many_arguments)]
+pub fn satd(org: Plane, x: usize, y: usize, w: usize, h: usize, cur: &[u16], depth: u8) -> Result<u32, Refusal> {
+    let mut value = 0;
+    let number = unsafe {
+        raw::tv_satd(
+            org.samples.as_ptr(), org.samples.len(), org.width, org.height, org.stride, x, y, w, h, cur.as_ptr(), cur.len(), depth,
+            &mut value,
+        )
+    };
+    answer(number).map(|()| value)
+}
+
 /// SSD of the plane's block at `(x, y)` and the packed block `cur`, logs 0..=6. Each square is divided by `2^(2 * (depth - 8))` before it is
 /// added.
 ///

@@ -27,7 +27,7 @@ mod distortion;
 mod raw;
 mod transform;
 
-pub use distortion::{diff, sad_16b, sad_16i, sad_bi_16b, sad_bi_16i, ssd_16b, ssd_16i, Plane};
+pub use distortion::{diff, sad_16b, sad_16i, sad_bi_16b, sad_bi_16i, satd, ssd_16b, ssd_16i, Plane};
 pub use transform::{dquant, itxb0, itxb1, job, sub_block, Job, Part, SubBlock, SubBlockRefusal};
 
 /// Why a call is refused. Where several apply, the lowest is answered.

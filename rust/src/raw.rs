@@ -21,6 +21,11 @@ extern "C" {
         cur: *const u16, cur_len: usize, depth: u8, diff: *mut i16, diff_len: usize,
     ) -> u8;
 
+    pub fn tv_satd(
+        org: *const u16, org_len: usize, width: usize, height: usize, stride: usize, x: usize, y: usize, w: usize, h: usize,
+        cur: *const u16, cur_len: usize, depth: u8, value: *mut u32,
+    ) -> u8;
+
     pub fn tv_ssd_16b(
         org: *const u16, org_len: usize, width: usize, height: usize, stride: usize, x: usize, y: usize, log2_w: usize, log2_h: usize,
         cur: *const u16, cur_len: usize, depth: u8, value: *mut i64,

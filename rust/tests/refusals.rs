@@ -126,6 +126,7 @@ fn distortions() {
         Plane { samples: &samples[..4], ..good },
         Plane { samples: &[], ..good },
     ] {
+        assert_eq!(satd(plane, 0, 0, 2, 2, &[0; 4], 8), Err(Refusal::Area));
         assert_eq!(ssd_16b(plane, 0, 0, 1, 1, &[0; 4], 8), Err(Refusal::Area));
         assert_eq!(ssd_16i(good, plane, 0, 0, 1, 1, 8), Err(Refusal::Area));
         assert_eq!(sad_16b(good, 0, 0, plane, 0, 0, 2, 2, 8), Err(Refusal::Area));
@@ -133,6 +134,7 @@ fn distortions() {
         assert_eq!(sad_16i(plane, 0, 0, 2, 2, &[0; 4], 8), Err(Refusal::Area));
     }
     // a sample that is not read is not tested: 99 stands between the rows
+    assert_eq!(satd(good, 0, 0, 2, 2, &[0; 4], 8), Ok(2 + 2 + 4));
     assert_eq!(ssd_16b(good, 0, 0, 1, 1, &[0; 4], 8), Ok(1 + 4 + 9 + 16));
     assert_eq!(ssd_16i(good, good, -7, -7, 1, 1, 8), Ok(0));
     assert_eq!(sad_16b(good, 0, 0, good, -1, -1, 2, 2, 8), Ok(1 + 2 + 3));
@@ -147,6 +149,7 @@ fn distortions() {
     ] {
         assert_eq!(sad_bi_16i(&[0; 4], pred, w, 2, depth), Err(refusal));
         assert_eq!(sad_16i(good, 0, 0, w, 2, pred, depth), Err(refusal));
+        assert_eq!(satd(good, 0, 0, w, 2, pred, depth), Err(refusal));
     }
     assert_eq!(sad_bi_16i(&[-16385, 0, 0, 0], &[0; 4], 2, 2, 8), Err(Refusal::Sample));
     assert_eq!(sad_bi_16i(&[i16::MAX; 4], &[0; 4], 2, 2, 14), Ok(32767 * 4 / 64));

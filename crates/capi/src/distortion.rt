@@ -1,7 +1,7 @@
 // The distortion calls.
 ghost use mathlib.Core.Path.{_≡_};
 ghost use lib.ListN.{length};
-ghost use Rattle.evc.specs.Calls.{diff16bNumber, diff16bExit, ssd16b, ssd16i, sad16b, sadBi16b, sad16i, sadBi16i};
+ghost use Rattle.evc.specs.Calls.{diff16bNumber, diff16bExit, satd16b, ssd16b, ssd16i, sad16b, sadBi16b, sad16i, sadBi16i};
 ghost use Rattle.sad.specs.Areas.{planeOf};
 ghost use Rattle.capi.specs.Boundary.{Told};
 use crate::numbers::answer_number;
@@ -38,6 +38,28 @@ pub extern "C" fn tv_diff(
         depth,
         diff,
     ))
+}
+
+#[no_mangle]
+pub extern "C" fn tv_satd(
+    org: &[u16],
+    width: usize,
+    height: usize,
+    stride: usize,
+    x: usize,
+    y: usize,
+    w: usize,
+    h: usize,
+    cur: &[u16],
+    depth: u8,
+    value: &mut u32,
+) -> u8
+    ensures { λ r. ⌜ Told (satd16b (planeOf (now (org .entry)) width height stride) x y w h (now (cur .entry)) depth) (now (value .entry)) (now (value .exit)) r ⌝ }
+{
+    tell_distortion(
+        sad::evce_satd_16b(org, width, height, stride, x, y, w, h, cur, depth),
+        value,
+    )
 }
 
 #[no_mangle]

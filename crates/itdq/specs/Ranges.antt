@@ -1,4 +1,4 @@
--- Ranges that the helpers' contracts cite: src/tests.rt, src/pairs.rt, src/block.rt. Assumes nothing.
+-- Ranges that the inner functions' contracts cite: src/tests.rt, src/pairs.rt, src/block.rt. Assumes nothing.
 use Prim.Native.Nat.{ℕ, _≤_}
 use mathlib.Core.Path.{_≡_}
 use Rattle.evc.specs.declared.Job.{Job}

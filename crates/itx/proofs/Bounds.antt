@@ -1,13 +1,12 @@
 -- Where the code reads table and line, and how large its sums are: a term is within 128 · 2^31, so that 64 of them fit 64 bits.
 -- Assumes nothing.
-use mathlib.Core.Path.{_≡_, sym, ap, _∙_, subst}
+use mathlib.Core.Path.{_≡_, sym}
 use mathlib.Core.List.{List}
-use Prim.Native.Nat.{ℕ, zero, suc, _+_, _*_, _-_, _≤_, _<_}
+use Prim.Native.Nat.{ℕ, suc, _+_, _*_, _≤_, _<_}
 use native.Mathlib.Omega.{arith}
 use native.Mathlib.Nat.{suc-mul, add-mul, mul-add, mul-le-mul-right, mul-le-mul-left}
 use native.Mathlib.Numerals.{add-one}
-use lib.ListN.{length, getD}
-use lib.IntN.{ℤ, pos, _+ℤ_, _*ℤ_}
+use lib.IntN.{ℤ, _+ℤ_, _*ℤ_}
 use Rattle.integers.specs.Sum.{ofZ+}
 use Rattle.integers.proofs.Bound.{Within, within-mul, within-mono}
 use Rattle.integers.proofs.Sum.{sum-step, within-sum}

@@ -1,8 +1,8 @@
 -- What a call's own proof and its callers cite: a size out of range, and a call on exactly its area. Assumes nothing.
-use mathlib.Core.Path.{_≡_, refl, sym, _∙_}
+use mathlib.Core.Path.{_≡_, sym, _∙_}
 use mathlib.Core.Bool.{true}
 use mathlib.Core.List.{List}
-use Prim.Native.Nat.{ℕ, _+_, _^_, _≤_, _<_}
+use Prim.Native.Nat.{ℕ, _^_, _≤_, _<_}
 use native.Mathlib.Omega.{arith}
 use borrow.Author.Tests.{lt-ltb, le-ltb}
 use lib.ListN.{length}
@@ -10,7 +10,7 @@ use lib.IntN.{ℤ}
 use Rattle.integers.proofs.Written.{written-all}
 use Rattle.evc.specs.Tests.{outside, samplesOf}
 use Rattle.evc.specs.Table.{tm}
-use Rattle.evc.specs.Stages.{stageOne, stageTwo, stageOneAt, stageTwoAt, stageOneTests, stageTwoTests, stageOneNumber, stageTwoNumber, stageOneExit, stageTwoExit, itxb0Exit, itxb1Exit}
+use Rattle.evc.specs.Stages.{stageOne, stageTwo, stageOneTests, stageTwoTests, stageOneNumber, stageTwoNumber, stageOneExit, stageTwoExit, itxb0Exit, itxb1Exit}
 use Rattle.evc.proofs.Tests.{first-none, inside-no}
 
 -- ---- a size out of range

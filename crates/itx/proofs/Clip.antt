@@ -9,11 +9,10 @@ use lib.Dec.{leb→le, leb}
 use lib.Pow.{pow-pos}
 use lib.ListN.{getD}
 use lib.IntN.{ℤ, pos, natAbs}
-use mir.Syntax.{w32}
-use Rattle.integers.proofs.Bound.{Within, within-mul, within-mono, sfits-within}
+use Rattle.integers.proofs.Bound.{within-mul, within-mono, sfits-within}
 use Rattle.integers.proofs.Sum.{within-sum}
 use Rattle.integers.proofs.Clip.{clip32-id}
-use Rattle.integers.proofs.Every.{below, below-at}
+use Rattle.integers.proofs.Every.{below-at}
 use Rattle.evc.specs.Table.{tm}
 use Rattle.evc.specs.Stages.{product, stageOneAt}
 use Rattle.table.proofs.Rule.{tm64-within}

@@ -1,5 +1,5 @@
 -- Document 01's table of each size, as it lies in the whole: the instance of the halving that the stages use. Assumes nothing.
-use mathlib.Core.Path.{_≡_, refl, sym, ap, _∙_, subst}
+use mathlib.Core.Path.{_≡_, sym, ap, _∙_}
 use mathlib.Core.List.{List}
 use Prim.Native.Nat.{ℕ, zero, suc, _+_, _*_, _-_, _/_, _^_, _≤_, _<_}
 use native.Mathlib.Omega.{arith}
@@ -7,13 +7,13 @@ use native.Mathlib.Nat.{mul-zero, mul-one, add-mul, mul-add, mul-le-mul-left, le
 use lib.Dec.{eqb, eqb→eq}
 use lib.Pow.{pow-pos}
 use lib.ListN.{length}
-use lib.IntN.{ℤ, pos, negℤ, _*ℤ_, natAbs}
+use lib.IntN.{ℤ, negℤ, _*ℤ_}
 use Rattle.integers.specs.Sum.{ofZ+}
-use Rattle.integers.proofs.Every.{below, below-at}
+use Rattle.integers.proofs.Every.{below-at}
 use Rattle.integers.proofs.Bound.{Within, within-mul, within-mono}
 use Rattle.integers.proofs.Sum.{sum-ext, within-sum}
 use Rattle.integers.proofs.Written.{tab-length}
-use Rattle.evc.specs.Table.{tm64, tm}
+use Rattle.evc.specs.Table.{tm}
 use Rattle.table.specs.Flat.{flat}
 use Rattle.table.specs.Mirror.{Mirrored}
 use Rattle.table.proofs.Rule.{entry, tm64-within}

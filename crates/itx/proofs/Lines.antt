@@ -1,13 +1,13 @@
 -- Laws of a line gathered and of a line stored, step by step. Assumes nothing.
 use mathlib.Core.Path.{_≡_, refl, sym, ap, _∙_, subst}
 use mathlib.Core.List.{List}
-use Prim.Native.Nat.{ℕ, zero, suc, _+_, _*_, _-_, _/_, _%_, _^_, _<_, _≤_}
+use Prim.Native.Nat.{ℕ, suc, _+_, _*_, _/_, _%_, _^_, _<_, _≤_}
 use native.Mathlib.Omega.{arith}
 use native.Mathlib.Nat.{mul-comm, suc-mul, mul-le-mul-right, add-zero, zero-mul, not-suc-le-zero}
 use native.Mathlib.Decide.{ℕ-discrete}
 use lib.Pow.{pow-add}
 use lib.Dec.{T, leb, leb→le}
-use lib.ListN.{length, getD, set, length-set, replicate}
+use lib.ListN.{length, getD, set, length-set}
 use lib.Seq.{getD-set-same, getD-set-other}
 use lib.IntN.{ℤ, pos, _*ℤ_, natAbs}
 use Rattle.integers.specs.Lists.{written}

@@ -12,3 +12,4 @@ pub mod Planes
 pub mod Logs
 pub mod Differing
 pub mod AtEdges
+pub mod Tiling

@@ -1,11 +1,12 @@
 -- Positions that may be negative: a test of order of ℤ as one of ℕ, and where w places from x on end. Assumes nothing.
 use mathlib.Core.Path.{_≡_, refl, sym, ap, _∙_, subst}
 use Prim.Native.Nat.{ℕ, zero, suc, _+_, _≤_, _<_}
+use native.Mathlib.Nat.{not-suc-le-zero}
 use native.Mathlib.Omega.{arith}
 use lib.Dec.{ltb}
 use mathlib.Core.Bool.{false}
 use borrow.Author.Tests.{lt-ltb, le-ltb, ltb-false}
-use lib.IntN.{ℤ, pos, negsuc, _+ℤ_, _-ℤ_, negℤ, natAbs}
+use lib.IntN.{ℤ, pos, negsuc, _+ℤ_, _-ℤ_, negℤ, natAbs, +ℤ-idl}
 use lib.Signed.{_≤ℤ_, _<ℤ_, ltZ}
 use mir.Syntax.{w16}
 use mir.Val.{SFits}
@@ -13,6 +14,7 @@ use Rattle.integers.proofs.Dif.{dif, up, dn, of, of-pos, dif-part, dif-eq, difs
 use Rattle.integers.proofs.Order.{signed, ≤-nat, dif-≤, sfits-parts}
 use Rattle.integers.proofs.Bound.{abs-neg}
 use Rattle.evc.specs.Planes.{edge, pastEdge}
+use Rattle.sad.specs.Edges.{behind}
 use Rattle.sad.proofs.Booleans.{ltb-same}
 
 -- ---- for integers
@@ -76,3 +78,30 @@ edge-neg (negsuc n) h = refl
 pub edge-pos : (x : ℤ) → pos 0 ≤ℤ x → natAbs x ≡ edge x
 edge-pos (pos n) h = refl
 edge-pos (negsuc n) h = let z : ⊥ = omega signed in absurd z
+
+-- where the i-th position from x on reads: at 0 while it is negative, and then one place further each time
+pub edge-under : (x : ℤ) (i : ℕ) → i < behind x → edge (x +ℤ pos i) ≡ 0
+edge-under (pos n) i h = absurd (not-suc-le-zero h)
+edge-under (negsuc n) i h = go (negsuc n +ℤ pos i) (sum-parts (negsuc n) i)
+  where
+    go : (z : ℤ) → up z + suc n ≡ 0 + i + dn z → edge z ≡ 0
+    go (pos m) e = let z : ⊥ = omega arith in absurd z
+    go (negsuc m) e = refl
+
+pub edge-over : (x : ℤ) (i : ℕ) → behind x ≤ i → edge (x +ℤ pos i) + behind x ≡ edge (x +ℤ pos 0) + i
+edge-over (pos n) i h = let e : n + 0 ≡ n = omega arith in omega arith
+edge-over (negsuc n) i h = go (negsuc n +ℤ pos i) (negsuc n +ℤ pos 0) (sum-parts (negsuc n) i) (sum-parts (negsuc n) 0)
+  where
+    go : (z y : ℤ) → up z + suc n ≡ 0 + i + dn z → up y + suc n ≡ 0 + 0 + dn y → edge z + suc n ≡ edge y + i
+    go (pos m) (pos k) e f = let z : ⊥ = omega arith in absurd z
+    go (pos m) (negsuc k) e f = omega arith
+    go (negsuc m) y e f = let z : ⊥ = omega arith in absurd z
+
+-- the code's negation
+pub minus-behind : (x : ℤ) → x <ℤ pos 0 → natAbs (pos 0 -ℤ x) ≡ behind x
+minus-behind (pos n) h = let z : ⊥ = omega signed in absurd z
+minus-behind (negsuc n) h = ap natAbs (+ℤ-idl (negℤ (negsuc n)))
+
+pub none-behind : (x : ℤ) → pos 0 ≤ℤ x → 0 ≡ behind x
+none-behind (pos n) h = refl
+none-behind (negsuc n) h = let z : ⊥ = omega signed in absurd z

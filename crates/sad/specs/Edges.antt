@@ -2,8 +2,8 @@
 use mathlib.Core.Bool.{false}
 use mathlib.Core.List.{List}
 use mathlib.Core.Path.{_≡_}
-use Prim.Native.Nat.{ℕ, _+_, _*_, _/_, _%_, _≤_, _<_}
-use lib.IntN.{ℤ, pos, _+ℤ_}
+use Prim.Native.Nat.{ℕ, suc, _+_, _*_, _/_, _%_, _≤_, _<_}
+use lib.IntN.{ℤ, pos, negsuc, _+ℤ_}
 use lib.Signed.{_≤ℤ_}
 use lib.ListN.{length, getD}
 use Rattle.order.specs.Positions.{reach}
@@ -16,6 +16,17 @@ edgeCell l stride x y j i = getD l (edge (y +ℤ pos j) * stride + edge (x +ℤ 
 -- the same by its place, row after row
 unfoldable pub edgeAt : List ℕ → ℕ → ℤ → ℤ → ℕ → ℕ → ℕ
 edgeAt l stride x y w place = edgeCell l stride x y (place / w) (place % w)
+
+-- how far x lies below 0
+abbrev pub behind : ℤ → ℕ
+behind (pos n) = 0
+behind (negsuc n) = suc n
+
+-- of w positions of which `down` would be negative, the first n are
+pub record Negative (down w n : ℕ) : Type 0 where
+  pub within : n ≤ w
+  pub under : n ≤ down
+  pub over : (i : ℕ) → n ≤ i → i < w → down ≤ i
 
 -- w columns from x on, in a row that starts at base, read inside n samples
 pub record RowEdges (n base : ℕ) (x : ℤ) (w : ℕ) : Type 0 where

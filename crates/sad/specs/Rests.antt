@@ -1,7 +1,7 @@
 -- What is left of a call once its sides, its depth and its areas are tested. Cited by the contracts of src/sad.rt, src/ssd.rt
 -- and src/diff.rt.
 -- Assumes nothing.
-use Prim.Native.Nat.{ℕ, _*_}
+use Prim.Native.Nat.{ℕ, _*_, _-_, _/_, _^_}
 use mathlib.Core.Bool.{false}
 use mathlib.Core.List.{List}
 use mathlib.Core.Path.{_≡_}
@@ -11,7 +11,8 @@ use Rattle.order.specs.Jobs.{ifAccepted}
 use Rattle.evc.specs.Answers.{Reply}
 use Rattle.evc.specs.Tests.{first, reply}
 use Rattle.evc.specs.Planes.{Block, tooLarge, tooLow}
-use Rattle.evc.specs.Differences.{difference, diffAt}
+use Rattle.evc.specs.Differences.{difference, diffAt, sadTotal, ssdTotal}
+use Rattle.evc.specs.Tiles.{tileSide, satdTotal}
 use Rattle.evc.specs.Calls.{sampleTests}
 use Rattle.sad.specs.Totals.{cell}
 
@@ -26,6 +27,16 @@ biRows l w = record { area = false; reads = λ j i. cell (pos 0) l 0 w j i; bad 
 -- SAMPLE where a value of either block is bad, else the value v
 unfoldable pub rest : {A : Type 0} → ℕ → ℕ → Block → Block → A → Reply A
 rest w h a b v = reply (first (sampleTests w h a b)) v
+
+-- SAD, SSD and SATD then
+abbrev pub sadLeft : ℕ → ℕ → ℕ → Block → Block → Reply ℕ
+sadLeft w h depth a b = rest w h a b (sadTotal w h (difference a b) / 2 ^ (depth - 8))
+
+abbrev pub ssdLeft : ℕ → ℕ → ℕ → Block → Block → Reply ℤ
+ssdLeft w h depth a b = rest w h a b (pos (ssdTotal (2 * (depth - 8)) w h (difference a b)))
+
+abbrev pub satdLeft : ℕ → ℕ → ℕ → Block → Block → Reply ℕ
+satdLeft w h depth a b = rest w h a b (satdTotal (tileSide w h) w h (difference a b) / 2 ^ (depth - 8))
 
 -- DIFF then: SAMPLE's number or 0, and the buffer l with the differences in its first places where that is 0
 pub record Differed (w h : ℕ) (a b : Block) (l : List ℤ) (number : ℕ) (exit : List ℤ) : Type 0 where

@@ -3,10 +3,8 @@
 // no depth holds, so that one test at the end finds it.
 ghost use mathlib.Core.Path.{_≡_};
 ghost use Prim.Native.Nat.{_+_, _*_, _≤_};
-ghost use lib.Bits.{bitOr};
-ghost use lib.IntN.{pos};
-ghost use lib.ListN.{length, getD};
-ghost use Rattle.sad.specs.Totals.{rowOf, cell, Told, Compared, TwoRows, TwoBlocks, apartBi, lowMark};
+ghost use lib.ListN.{length};
+ghost use Rattle.sad.specs.Totals.{rowOf, BiRowsTold, BiBlocksTold, TwoRows, TwoBlocks, apartBi, lowMark};
 use crate::rows::Totals;
 
 // Row j of a block whose rows stand a stride apart in l, from `at` on.
@@ -42,7 +40,7 @@ fn mark(v: i16) -> u16
 // The absolute differences of two rows, added.
 fn sad_row(a: &[i16], b: &[u16], w: usize) -> Totals
     requires { ⌜ TwoRows w (now a) (now b) ⌝ }
-    ensures { λ r. ⌜ Told w (λ i. apartBi (getD (now (a .entry)) i (pos 0)) (getD (now (b .entry)) i 0)) (λ i. bitOr (lowMark (getD (now (a .entry)) i (pos 0))) (getD (now (b .entry)) i 0)) (r .sum) (r .any) ⌝ }
+    ensures { λ r. ⌜ BiRowsTold w (now (a .entry)) (now (b .entry)) (r .sum) (r .any) ⌝ }
     ensures { λ r. ⌜ r .sum ≤ w * 98303 ⌝ }
 {
     let mut sum: u32 = 0;
@@ -60,7 +58,7 @@ fn sad_row(a: &[i16], b: &[u16], w: usize) -> Totals
 // The same of two blocks, of which the first is packed.
 fn sad_rows(a: &[i16], b: &[u16], b_at: usize, b_stride: usize, w: usize, h: usize) -> Totals
     requires { ⌜ TwoBlocks w h (length (now a)) 0 w (length (now b)) «b_at» «b_stride» ⌝ }
-    ensures { λ r. ⌜ Compared w h (λ j i. apartBi (cell (pos 0) (now (a .entry)) 0 w j i) (cell 0 (now (b .entry)) «b_at» «b_stride» j i)) (λ j i. bitOr (lowMark (cell (pos 0) (now (a .entry)) 0 w j i)) (cell 0 (now (b .entry)) «b_at» «b_stride» j i)) (r .sum) (r .any) ⌝ }
+    ensures { λ r. ⌜ BiBlocksTold w h (now (a .entry)) (now (b .entry)) «b_at» «b_stride» (r .sum) (r .any) ⌝ }
     ensures { λ r. ⌜ r .sum ≤ h * 6291392 ⌝ }
 {
     let mut sum: u64 = 0;
@@ -87,7 +85,7 @@ pub(crate) fn sad_block(
     h: usize,
 ) -> Totals
     requires { ⌜ TwoBlocks w h (length (now a)) 0 w (length (now b)) «b_at» «b_stride» ⌝ }
-    ensures { λ r. ⌜ Compared w h (λ j i. apartBi (cell (pos 0) (now (a .entry)) 0 w j i) (cell 0 (now (b .entry)) «b_at» «b_stride» j i)) (λ j i. bitOr (lowMark (cell (pos 0) (now (a .entry)) 0 w j i)) (cell 0 (now (b .entry)) «b_at» «b_stride» j i)) (r .sum) (r .any) ⌝ }
+    ensures { λ r. ⌜ BiBlocksTold w h (now (a .entry)) (now (b .entry)) «b_at» «b_stride» (r .sum) (r .any) ⌝ }
     ensures { λ r. ⌜ r .sum ≤ h * 6291392 ⌝ }
 {
     match w {

@@ -3,9 +3,8 @@
 // Differs from the Rust in: the common widths are literals, for which compilers write straight vector code.
 ghost use mathlib.Core.Path.{_≡_};
 ghost use Prim.Native.Nat.{_≤_};
-ghost use lib.Bits.{bitOr};
 ghost use lib.ListN.{length};
-ghost use Rattle.sad.specs.Totals.{TwoBlocks, Compared, cell, apart, squared};
+ghost use Rattle.sad.specs.Totals.{TwoBlocks, BlocksTold, apart, squared};
 use crate::rows::Totals;
 
 fn sad_rows(
@@ -19,7 +18,7 @@ fn sad_rows(
     h: usize,
 ) -> Totals
     requires { ⌜ TwoBlocks w h (length (now a)) «a_at» «a_stride» (length (now b)) «b_at» «b_stride» ⌝ }
-    ensures { λ r. ⌜ Compared w h (λ j i. apart (cell 0 (now (a .entry)) «a_at» «a_stride» j i) (cell 0 (now (b .entry)) «b_at» «b_stride» j i)) (λ j i. bitOr (cell 0 (now (a .entry)) «a_at» «a_stride» j i) (cell 0 (now (b .entry)) «b_at» «b_stride» j i)) (r .sum) (r .any) ⌝ }
+    ensures { λ r. ⌜ BlocksTold apart w h (now (a .entry)) «a_at» «a_stride» (now (b .entry)) «b_at» «b_stride» (r .sum) (r .any) ⌝ }
 {
     let mut sum: u64 = 0;
     let mut any: u16 = 0;
@@ -47,7 +46,7 @@ pub(crate) fn sad_block(
     h: usize,
 ) -> Totals
     requires { ⌜ TwoBlocks w h (length (now a)) «a_at» «a_stride» (length (now b)) «b_at» «b_stride» ⌝ }
-    ensures { λ r. ⌜ Compared w h (λ j i. apart (cell 0 (now (a .entry)) «a_at» «a_stride» j i) (cell 0 (now (b .entry)) «b_at» «b_stride» j i)) (λ j i. bitOr (cell 0 (now (a .entry)) «a_at» «a_stride» j i) (cell 0 (now (b .entry)) «b_at» «b_stride» j i)) (r .sum) (r .any) ⌝ }
+    ensures { λ r. ⌜ BlocksTold apart w h (now (a .entry)) «a_at» «a_stride» (now (b .entry)) «b_at» «b_stride» (r .sum) (r .any) ⌝ }
 {
     match w {
         64 => sad_rows(a, a_at, a_stride, b, b_at, b_stride, 64, h),
@@ -72,7 +71,7 @@ fn ssd_rows(
 ) -> Totals
     requires { ⌜ TwoBlocks w h (length (now a)) «a_at» «a_stride» (length (now b)) «b_at» «b_stride» ⌝ }
     requires { ⌜ shift ≤ 12 ⌝ }
-    ensures { λ r. ⌜ Compared w h (λ j i. squared shift (cell 0 (now (a .entry)) «a_at» «a_stride» j i) (cell 0 (now (b .entry)) «b_at» «b_stride» j i)) (λ j i. bitOr (cell 0 (now (a .entry)) «a_at» «a_stride» j i) (cell 0 (now (b .entry)) «b_at» «b_stride» j i)) (r .sum) (r .any) ⌝ }
+    ensures { λ r. ⌜ BlocksTold (squared shift) w h (now (a .entry)) «a_at» «a_stride» (now (b .entry)) «b_at» «b_stride» (r .sum) (r .any) ⌝ }
 {
     let mut sum: u64 = 0;
     let mut any: u16 = 0;
@@ -103,7 +102,7 @@ pub(crate) fn ssd_block(
 ) -> Totals
     requires { ⌜ TwoBlocks w h (length (now a)) «a_at» «a_stride» (length (now b)) «b_at» «b_stride» ⌝ }
     requires { ⌜ shift ≤ 12 ⌝ }
-    ensures { λ r. ⌜ Compared w h (λ j i. squared shift (cell 0 (now (a .entry)) «a_at» «a_stride» j i) (cell 0 (now (b .entry)) «b_at» «b_stride» j i)) (λ j i. bitOr (cell 0 (now (a .entry)) «a_at» «a_stride» j i) (cell 0 (now (b .entry)) «b_at» «b_stride» j i)) (r .sum) (r .any) ⌝ }
+    ensures { λ r. ⌜ BlocksTold (squared shift) w h (now (a .entry)) «a_at» «a_stride» (now (b .entry)) «b_at» «b_stride» (r .sum) (r .any) ⌝ }
 {
     match w {
         64 => ssd_rows(a, a_at, a_stride, b, b_at, b_stride, 64, h, shift),

@@ -26,7 +26,7 @@ fn minus(p: u16, q: u16) -> i16
 }
 
 // The differences of two rows.
-fn diff_row(a: &[u16], b: &[u16], w: usize, out: &mut [i16])
+pub(crate) fn diff_row(a: &[u16], b: &[u16], w: usize, out: &mut [i16])
     requires { ⌜ TwoRows w (now a) (now b) ⌝ }
     requires { ⌜ SmallRows w (now a) (now b) ⌝ }
     requires { ⌜ length (now out) ≡ w ⌝ }

@@ -9,7 +9,7 @@ ghost use lib.Signed.{ltZ};
 ghost use lib.ListN.{length, getD};
 ghost use Rattle.integers.specs.Lists.{tab, written};
 ghost use Rattle.evc.specs.Planes as plane;
-ghost use Rattle.sad.specs.Edges.{edgeAt, RowEdges, EdgesIn, Plain};
+ghost use Rattle.sad.specs.Edges.{edgeAt, behind, Negative, RowEdges, EdgesIn, Plain};
 
 // Where the i-th position from p on reads: the larger of it and 0.
 fn edge(p: i16, i: usize) -> usize
@@ -20,15 +20,35 @@ fn edge(p: i16, i: usize) -> usize
     if at < 0 { 0 } else { at as usize }
 }
 
-// One row of the plane l, that starts at base.
+// How many positions from x on are negative.
+fn below(x: i16) -> usize
+    ensures { λ r. ⌜ (r ≡ behind x) × (r ≤ 32768) ⌝ }
+{
+    if x < 0 { (0 - (x as i32)) as usize } else { 0 }
+}
+
+// How many of w positions are negative, where `down` would be.
+fn at_most(down: usize, w: usize) -> usize
+    ensures { λ r. ⌜ Negative down w r ⌝ }
+{
+    if down < w { down } else { w }
+}
+
+// One row of the plane l, that starts at base: its first sample at each negative position, then those from the edge on. The two loops copy
+// runs of samples, which compilers turn into vector code.
 fn edge_row(l: &[u16], base: usize, x: i16, w: usize, out: &mut [u16])
     requires { ⌜ RowEdges (length (now l)) base x w ⌝ }
     requires { ⌜ length (now out) ≡ w ⌝ }
     ensures { λ _. ⌜ now (out .exit) ≡ tab w (λ i. getD (now (l .entry)) (base + plane.edge (x +ℤ pos i)) 0) ⌝ }
 {
-    for i in 0..w {
-        let at = base + edge(x, i);
-        out[i] = l[at];
+    let down = below(x);
+    let up = edge(x, 0);
+    let n = at_most(down, w);
+    for i in 0..n {
+        out[i] = l[base];
+    }
+    for i in n..w {
+        out[i] = l[base + up + i - down];
     }
 }
 

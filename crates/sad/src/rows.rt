@@ -4,9 +4,8 @@
 // that these loops have no way out and become vector code.
 ghost use mathlib.Core.Path.{_≡_};
 ghost use Prim.Native.Nat.{_+_, _*_, _≤_};
-ghost use lib.Bits.{bitOr};
-ghost use lib.ListN.{length, getD};
-ghost use Rattle.sad.specs.Totals.{rowOf, Told, TwoRows, apart, squared};
+ghost use lib.ListN.{length};
+ghost use Rattle.sad.specs.Totals.{rowOf, RowsTold, TwoRows, apart, squared};
 
 // Row j of a block whose rows stand a stride apart in l, from `at` on.
 pub(crate) fn row(l: &[u16], at: usize, stride: usize, j: usize, w: usize) -> &[u16]
@@ -34,7 +33,7 @@ fn distance(p: u16, q: u16) -> u16
 // The absolute differences of two rows, added.
 pub(crate) fn sad_row(a: &[u16], b: &[u16], w: usize) -> Totals
     requires { ⌜ TwoRows w (now a) (now b) ⌝ }
-    ensures { λ r. ⌜ Told w (λ i. apart (getD (now (a .entry)) i 0) (getD (now (b .entry)) i 0)) (λ i. bitOr (getD (now (a .entry)) i 0) (getD (now (b .entry)) i 0)) (r .sum) (r .any) ⌝ }
+    ensures { λ r. ⌜ RowsTold apart w (now (a .entry)) (now (b .entry)) (r .sum) (r .any) ⌝ }
 {
     let mut sum: u32 = 0;
     let mut any: u16 = 0;
@@ -52,7 +51,7 @@ pub(crate) fn sad_row(a: &[u16], b: &[u16], w: usize) -> Totals
 pub(crate) fn ssd_row(a: &[u16], b: &[u16], w: usize, shift: u8) -> Totals
     requires { ⌜ TwoRows w (now a) (now b) ⌝ }
     requires { ⌜ shift ≤ 12 ⌝ }
-    ensures { λ r. ⌜ Told w (λ i. squared shift (getD (now (a .entry)) i 0) (getD (now (b .entry)) i 0)) (λ i. bitOr (getD (now (a .entry)) i 0) (getD (now (b .entry)) i 0)) (r .sum) (r .any) ⌝ }
+    ensures { λ r. ⌜ RowsTold (squared shift) w (now (a .entry)) (now (b .entry)) (r .sum) (r .any) ⌝ }
 {
     let mut sum: u64 = 0;
     let mut any: u16 = 0;

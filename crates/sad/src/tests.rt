@@ -3,8 +3,8 @@
 // Differs from the Rust in: the Rust tests nothing.
 ghost use mathlib.Core.Path.{_≡_};
 ghost use mathlib.Core.Bool.{_||_};
-ghost use Prim.Native.Nat.{_+_, _^_, _≤_};
-ghost use lib.Dec.{ltb};
+ghost use Prim.Native.Nat.{_+_, _%_, _^_, _≤_};
+ghost use lib.Dec.{ltb, eqb};
 ghost use Rattle.order.specs.Positions.{reach};
 ghost use Rattle.evc.specs.Tests as of;
 ghost use Rattle.evc.specs.Planes.{pastEdge};
@@ -25,6 +25,24 @@ pub(crate) fn sides(w: usize, h: usize) -> bool
         true
     } else {
         outside(1, 64, h)
+    }
+}
+
+// A side that SATD doesn't allow.
+fn no_even_side(x: usize) -> bool
+    ensures { λ r. ⌜ r ≡ of.outside 2 64 x || eqb (x % 2) 1 ⌝ }
+{
+    if outside(2, 64, x) { true } else { x % 2 == 1 }
+}
+
+// Either side of a SATD's block is not allowed.
+pub(crate) fn uneven_sides(w: usize, h: usize) -> bool
+    ensures { λ r. ⌜ r ≡ (of.outside 2 64 w || eqb (w % 2) 1) || (of.outside 2 64 h || eqb (h % 2) 1) ⌝ }
+{
+    if no_even_side(w) {
+        true
+    } else {
+        no_even_side(h)
     }
 }
 

@@ -1,6 +1,6 @@
 -- `itx::gather::gather_i32` meets its contract: input after input. Assumes nothing.
-use borrow.Author.Needs.{needs, sfits-of}
-use mathlib.Core.Path.{_≡_, refl, sym, ap, _∙_, subst}
+use borrow.Author.Needs.{sfits-of}
+use mathlib.Core.Path.{sym, _∙_, subst}
 use mathlib.Core.List.{[], _∷_}
 use Prim.Native.Nat.{ℕ, _+_, _*_, _-_, _≤_, _<_}
 use native.Mathlib.Omega.{arith}
@@ -9,7 +9,7 @@ use lib.IntN.{ℤ, pos, natAbs}
 use mir.Syntax.{w32, w64}
 use mir.Val.{SFits}
 use Rattle.integers.proofs.Bound.{within-sfits, within-mono}
-use Rattle.integers.proofs.Expr.{Ex, var, loc, Known, arg, env, fit, reads}
+use Rattle.integers.proofs.Expr.{var, loc, Known, arg, env, fit, reads}
 use Rattle.itx.specs.Lines.{Gathered}
 use Rattle.itx.proofs.Lines.{place, gathered-none, gathered-more}
 use Rattle.itx.proofs.gather.gather_i32.Statement.{statement}

@@ -1,6 +1,5 @@
 -- `itx::line::level` meets its contract: place after place. Assumes nothing.
-use borrow.Author.Needs.{needs}
-use mathlib.Core.Path.{_≡_, sym, _∙_, subst}
+use mathlib.Core.Path.{sym, _∙_, subst}
 use Prim.Native.Nat.{ℕ, _-_, _≤_}
 use native.Mathlib.Omega.{arith}
 use Rattle.itx.specs.Line.{rows, Part}

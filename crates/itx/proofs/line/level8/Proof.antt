@@ -1,5 +1,5 @@
 -- `itx::line::level8` meets its contract: eight places, one after the other. Assumes nothing.
-use mathlib.Core.Path.{_≡_, sym, _∙_}
+use mathlib.Core.Path.{sym, _∙_}
 use native.Mathlib.Omega.{arith}
 use Rattle.itx.proofs.Step.{none, all}
 use Rattle.itx.proofs.line.level8.Statement.{statement}

@@ -1,21 +1,18 @@
 -- `itx::line::odd_sum` meets its contract: the sum so far is the odd half of so many terms. Assumes nothing.
 use mathlib.Core.Path.{_≡_, sym, ap, _∙_}
 use mathlib.Core.List.{[], _∷_}
-use Prim.Native.Nat.{ℕ, suc, _+_, _*_, _-_, _≤_, _<_}
+use Prim.Native.Nat.{ℕ, _+_, _*_, _-_, _≤_, _<_}
 use native.Mathlib.Omega.{arith}
 use lib.ListN.{length}
 use lib.IntN.{ℤ, pos, _+ℤ_}
 use mir.Syntax.{w64}
 use Rattle.integers.specs.Sum.{ofZ+}
 use Rattle.integers.proofs.Sum.{sum-none}
-use Rattle.integers.proofs.Expr.{Ex, var, add, Known, small, held, env, fit, Holds, holds, holds-lit, held-reads}
+use Rattle.integers.proofs.Expr.{var, add, Known, small, held, env, fit, Holds, holds, holds-lit, held-reads}
 use Rattle.itx.specs.Line.{rows, line, odd, Level}
 use Rattle.itx.proofs.Bounds.{term, odd-number, odd-step, odd-multiple, odd-within, half-size, column}
 use Rattle.itx.proofs.line.odd_sum.Statement.{statement}
 use Rattle.itx.proofs.line.odd_sum.Tie as tie
-use Rattle.itx.proofs.line.odd_sum.Reads as reads
-use Rattle.itx.proofs.line.odd_sum.Lts as lts
-use Rattle.itx.proofs.line.term.Reads as term-reads
 
 abbrev Inv-loop : tie.InvT-loop
 Inv-loop t w x m q n sum₀ k₀ sum k = (k ≤ m) × Holds w64 (k * term) sum (odd (rows t w) q k n (line x))

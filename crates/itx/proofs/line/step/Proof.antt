@@ -2,13 +2,13 @@
 use borrow.Author.Needs.{needs}
 use mathlib.Core.Path.{_≡_, sym, ap₂, _∙_, subst}
 use mathlib.Core.List.{[], _∷_}
-use Prim.Native.Nat.{ℕ, suc, _+_, _*_, _-_, _≤_, _<_}
+use Prim.Native.Nat.{ℕ, suc, _+_, _*_, _-_, _<_}
 use native.Mathlib.Omega.{arith}
 use lib.ListN.{length, getD, length-set}
 use lib.IntN.{ℤ, pos, _+ℤ_, _-ℤ_}
 use mir.Syntax.{w64}
 use Rattle.integers.proofs.Bound.{Within}
-use Rattle.integers.proofs.Expr.{Ex, var, add, sub, loc, Known, small, env, fit, reads}
+use Rattle.integers.proofs.Expr.{var, add, sub, loc, Known, small, env, fit, reads}
 use Rattle.itx.specs.Line.{rows, line, dot, odd, Level}
 use Rattle.itx.proofs.Bounds.{half-size, odd-bound, even-bound}
 use Rattle.itx.proofs.Step.{place, more}

@@ -6,7 +6,7 @@ use Prim.Native.Nat.{ℕ, _≤_}
 use lib.ListN.{getD}
 use lib.IntN.{ℤ, pos, natAbs}
 use mir.Syntax.{w8, w64}
-use Rattle.integers.proofs.Expr.{Ex, var, mul, loc, Known, arg, small, env, within, reads, fit}
+use Rattle.integers.proofs.Expr.{var, mul, loc, Known, arg, small, env, within, reads, fit}
 use Rattle.itx.specs.Line.{line}
 use Rattle.itx.proofs.line.term.Statement.{statement}
 use Rattle.itx.proofs.line.term.Tie as tie

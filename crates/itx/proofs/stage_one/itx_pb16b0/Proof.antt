@@ -1,6 +1,5 @@
 -- `itx::stage_one::itx_pb16b0` meets its contract: gathered, summed, stored. Assumes nothing.
-use borrow.Author.Needs.{needs}
-use mathlib.Core.Path.{refl}
+use mathlib.Core.Path.{refl, sym}
 use native.Mathlib.Omega.{arith}
 use Rattle.integers.specs.Z.{clip32}
 use Rattle.evc.specs.Table.{tm}
@@ -10,28 +9,28 @@ use Rattle.itx.proofs.stage_one.itx_pb16b0.Statement.{statement}
 use Rattle.itx.proofs.stage_one.itx_pb16b0.Tie as tie
 
 slice-aggregate-gather-i16 : tie.Need-slice-aggregate-gather-i16
-slice-aggregate-gather-i16 c = search needs
+slice-aggregate-gather-i16 c = refl
 
 gather-i16-requires : tie.Need-gather-i16-requires
-gather-i16-requires c κs = search needs
+gather-i16-requires c κs = (refl, (c .before .pre .among, c .before .pre .src-room))
 
 slice-aggregate-own16 : tie.Need-slice-aggregate-own16
-slice-aggregate-own16 c = search needs
+slice-aggregate-own16 c = sym (c .before .before .gather-i16 .ensures .long)
 
 slice-aggregate-own16-2 : tie.Need-slice-aggregate-own16-2
-slice-aggregate-own16-2 c = search needs
+slice-aggregate-own16-2 c = refl
 
 own16-requires : tie.Need-own16-requires
 own16-requires c κs = (inputs (c .before .before .before .gather-i16 .ensures) (omega arith), refl)
 
 slice-aggregate-store-i32 : tie.Need-slice-aggregate-store-i32
-slice-aggregate-store-i32 c = search needs
+slice-aggregate-store-i32 c = sym (c .before .before .own16 .ensures .long)
 
 store-i32-requires : tie.Need-store-i32-requires
-store-i32-requires c κs = search needs
+store-i32-requires c κs = (omega (arith, c .before .before .before .own16 .ensures .long), c .before .before .before .before .before .before .before .before .before .pre .dst-room)
 
 same-length : tie.Need-same-length
-same-length c = search needs
+same-length c = c .before .store-i32 .ensures .long
 
 returns : tie.Need-returns
 unfolding stageOneAt

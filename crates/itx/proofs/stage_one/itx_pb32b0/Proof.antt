@@ -1,6 +1,5 @@
 -- `itx::stage_one::itx_pb32b0` meets its contract: gathered, summed, stored. Assumes nothing.
-use borrow.Author.Needs.{needs}
-use mathlib.Core.Path.{refl}
+use mathlib.Core.Path.{refl, sym}
 use native.Mathlib.Omega.{arith}
 use Rattle.integers.specs.Z.{clip32}
 use Rattle.evc.specs.Table.{tm}
@@ -10,28 +9,28 @@ use Rattle.itx.proofs.stage_one.itx_pb32b0.Statement.{statement}
 use Rattle.itx.proofs.stage_one.itx_pb32b0.Tie as tie
 
 slice-aggregate-gather-i16 : tie.Need-slice-aggregate-gather-i16
-slice-aggregate-gather-i16 c = search needs
+slice-aggregate-gather-i16 c = refl
 
 gather-i16-requires : tie.Need-gather-i16-requires
-gather-i16-requires c κs = search needs
+gather-i16-requires c κs = (refl, (c .before .pre .1 .among, c .before .pre .1 .src-room))
 
 slice-aggregate-own32 : tie.Need-slice-aggregate-own32
-slice-aggregate-own32 c = search needs
+slice-aggregate-own32 c = sym (c .before .before .gather-i16 .ensures .long)
 
 slice-aggregate-own32-2 : tie.Need-slice-aggregate-own32-2
-slice-aggregate-own32-2 c = search needs
+slice-aggregate-own32-2 c = refl
 
 own32-requires : tie.Need-own32-requires
 own32-requires c κs = (c .before .before .before .before .before .pre .0, (inputs (c .before .before .before .gather-i16 .ensures) (omega arith), refl))
 
 slice-aggregate-store-i32 : tie.Need-slice-aggregate-store-i32
-slice-aggregate-store-i32 c = search needs
+slice-aggregate-store-i32 c = sym (c .before .before .own32 .ensures .long)
 
 store-i32-requires : tie.Need-store-i32-requires
-store-i32-requires c κs = search needs
+store-i32-requires c κs = (omega (arith, c .before .before .before .own32 .ensures .long), c .before .before .before .before .before .before .before .before .before .pre .1 .dst-room)
 
 same-length : tie.Need-same-length
-same-length c = search needs
+same-length c = c .before .store-i32 .ensures .long
 
 returns : tie.Need-returns
 unfolding stageOneAt

@@ -1,16 +1,15 @@
 -- `itx::stage_one::itxb0` meets its contract: each return by the tests that led there. Assumes nothing.
-use borrow.Author.Needs.{needs, sfits-of}
+use borrow.Author.Needs.{needs}
 use borrow.Author.Tests.{lt-ltb, le-ltb}
-use mathlib.Core.Path.{_≡_, _∙_}
-use mathlib.Core.Bool.{true}
+use mathlib.Core.Path.{_≡_}
 use mathlib.Core.List.{List}
-use Prim.Native.Nat.{ℕ, _+_, _*_, _^_, _%_, _≤_, _<_}
+use Prim.Native.Nat.{_+_, _*_, _^_, _%_, _≤_}
 use native.Mathlib.Omega.{arith}
 use lib.ListN.{length}
 use mir.Syntax.{w64}
 use Rattle.integers.proofs.Bits.{one-shl}
 use Rattle.evc.specs.Table.{tm}
-use Rattle.evc.specs.Tests.{Test, outside, samplesOf}
+use Rattle.evc.specs.Tests.{Test, samplesOf}
 use Rattle.evc.specs.Stages.{stageOneAt, stageOneTests, stageOneNumber, stageOneExit}
 use Rattle.evc.proofs.Tests.{Unbroken, refused-at, accepted-end, inside-no}
 use Rattle.itx.specs.Lines.{Rooms}

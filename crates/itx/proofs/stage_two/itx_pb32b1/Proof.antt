@@ -1,6 +1,5 @@
 -- `itx::stage_two::itx_pb32b1` meets its contract: gathered, summed, stored. Assumes nothing.
-use borrow.Author.Needs.{needs}
-use mathlib.Core.Path.{refl}
+use mathlib.Core.Path.{refl, sym}
 use native.Mathlib.Omega.{arith}
 use mir.Facts.{toZ-ofZ}
 use Rattle.evc.specs.Table.{tm}
@@ -12,22 +11,22 @@ use Rattle.itx.proofs.stage_two.itx_pb32b1.Statement.{statement}
 use Rattle.itx.proofs.stage_two.itx_pb32b1.Tie as tie
 
 slice-aggregate-gather-i32 : tie.Need-slice-aggregate-gather-i32
-slice-aggregate-gather-i32 c = search needs
+slice-aggregate-gather-i32 c = refl
 
 gather-i32-requires : tie.Need-gather-i32-requires
-gather-i32-requires c κs = search needs
+gather-i32-requires c κs = (refl, (c .before .pre .1 .1 .among, c .before .pre .1 .1 .src-room))
 
 slice-aggregate-own32 : tie.Need-slice-aggregate-own32
-slice-aggregate-own32 c = search needs
+slice-aggregate-own32 c = sym (c .before .before .gather-i32 .ensures .long)
 
 slice-aggregate-own32-2 : tie.Need-slice-aggregate-own32-2
-slice-aggregate-own32-2 c = search needs
+slice-aggregate-own32-2 c = refl
 
 own32-requires : tie.Need-own32-requires
 own32-requires c κs = (c .before .before .before .before .before .pre .1 .0, (inputs (c .before .before .before .gather-i32 .ensures) (omega arith), refl))
 
 slice-aggregate-store-i16 : tie.Need-slice-aggregate-store-i16
-slice-aggregate-store-i16 c = search needs
+slice-aggregate-store-i16 c = sym (c .before .before .own32 .ensures .long)
 
 store-i16-requires : tie.Need-store-i16-requires
 store-i16-requires c κs =
@@ -36,11 +35,11 @@ store-i16-requires c κs =
         rw (toZ-ofZ (s .fits .add)) (s .pre .0),
         own-bounded 32 (inputs (c .before .before .before .before .before .before .before .gather-i32 .ensures) (omega arith)) (c .before .before .before .own32 .ensures),
       ),
-      (search needs, s .pre .1 .1 .dst-room),
+      (omega (arith, c .before .before .before .own32 .ensures .long), s .pre .1 .1 .dst-room),
     )
 
 same-length : tie.Need-same-length
-same-length c = search needs
+same-length c = c .before .store-i16 .ensures .long
 
 returns : tie.Need-returns
 unfolding stageTwoAt

@@ -2,9 +2,8 @@
 use borrow.Author.Needs.{needs, sfits-of}
 use borrow.Author.Tests.{lt-ltb, le-ltb}
 use mathlib.Core.Path.{_≡_, _∙_}
-use mathlib.Core.Bool.{true}
 use mathlib.Core.List.{List}
-use Prim.Native.Nat.{ℕ, _+_, _*_, _^_, _%_, _≤_, _<_}
+use Prim.Native.Nat.{_+_, _*_, _^_, _%_, _≤_}
 use native.Mathlib.Omega.{arith}
 use lib.ListN.{length}
 use mir.Syntax.{w64}
@@ -12,7 +11,7 @@ use mir.Val.{toZ, ofZ}
 use mir.Facts.{toZ-ofZ}
 use Rattle.integers.proofs.Bits.{one-shl}
 use Rattle.evc.specs.Table.{tm}
-use Rattle.evc.specs.Tests.{Test, outside, samplesOf}
+use Rattle.evc.specs.Tests.{Test, samplesOf}
 use Rattle.evc.specs.Stages.{stageTwoAt, stageTwoTests, stageTwoNumber, stageTwoExit}
 use Rattle.evc.proofs.Tests.{Unbroken, refused-at, accepted-end, inside-no}
 use Rattle.itx.specs.Lines.{Amount, Rooms}

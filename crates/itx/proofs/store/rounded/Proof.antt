@@ -1,19 +1,15 @@
 -- `itx::store::rounded` meets its contract. Assumes nothing.
 use borrow.Author.Needs.{needs, sfits-of}
-use mathlib.Core.Path.{_≡_, sym, ap, _∙_, subst}
+use mathlib.Core.Path.{sym, ap, _∙_, subst}
 use mathlib.Core.List.{[], _∷_}
-use Prim.Native.Nat.{ℕ, _^_, _≤_}
-use native.Mathlib.Omega.{arith}
-use lib.IntN.{ℤ, _+ℤ_, natAbs}
+use Prim.Native.Nat.{ℕ, _^_}
+use lib.IntN.{ℤ, _+ℤ_}
 use lib.Signed.{shrZ}
-use mir.Syntax.{w16, w64}
-use mir.Val.{SFits}
+use mir.Syntax.{w64}
 use mir.Facts.{toZ-ofZ}
 use Rattle.integers.specs.Z.{clip16}
 use Rattle.integers.proofs.Bound.{Within}
-use Rattle.integers.proofs.Expr.{Ex, var, add, shr, loc, Known, small, env, fit, reads}
-use Rattle.evc.specs.Stages.{rounding}
-use Rattle.itx.specs.Lines.{shifted}
+use Rattle.integers.proofs.Expr.{var, add, shr, loc, Known, small, env, fit, reads}
 use Rattle.itx.proofs.Lines.{rounding-within}
 use Rattle.itx.proofs.store.rounded.Statement.{statement}
 use Rattle.itx.proofs.store.rounded.Tie as tie

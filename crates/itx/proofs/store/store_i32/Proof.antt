@@ -1,10 +1,10 @@
 -- `itx::store::store_i32` meets its contract: place after place. Assumes nothing.
-use borrow.Author.Needs.{needs, sfits-of}
-use mathlib.Core.Path.{_≡_, sym, ap, _∙_, subst}
-use Prim.Native.Nat.{ℕ, _+_, _*_, _-_, _≤_, _<_}
+use borrow.Author.Needs.{sfits-of}
+use mathlib.Core.Path.{ap, _∙_, subst}
+use Prim.Native.Nat.{ℕ, _*_, _-_, _≤_}
 use native.Mathlib.Omega.{arith}
-use lib.ListN.{length, getD}
-use lib.IntN.{ℤ, pos}
+use lib.ListN.{getD}
+use lib.IntN.{pos}
 use mir.Syntax.{w32, w64}
 use mir.Val.{SFits, toZ, ofZ}
 use mir.Facts.{toZ-ofZ}

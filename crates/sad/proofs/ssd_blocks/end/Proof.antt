@@ -1,0 +1,32 @@
+-- `end` meets its contract. Assumes nothing.
+use mathlib.Core.Path.{_≡_, refl, sym, ap, _∙_}
+use Prim.Native.Nat.{ℕ, _^_}
+use native.Mathlib.Omega.{arith}
+use borrow.Author.Tests.{le-leb, lt-leb}
+use mir.Syntax.{w64}
+use mir.Facts.{toZ-pos}
+use Rattle.sad.proofs.Laws.{div-some, div-none}
+use borrow.Author.Needs.{needs}
+use Rattle.sad.proofs.ssd_blocks.end.Statement.{statement}
+use Rattle.sad.proofs.ssd_blocks.end.Tie as tie
+use Rattle.sad.proofs.ssd_blocks.end.Reads as reads
+use Rattle.sad.proofs.ssd_blocks.end.Lts as lts
+
+shr-if1 : tie.Need-shr-if1
+shr-if1 c = search needs
+
+returns : tie.Need-returns
+returns c =
+    let a = c .before .before .args in
+    rw (le-leb (2 ^ a .depth) (a .t .any) (div-some (a .t .any) (a .depth) (c .if1 .taken)))
+
+cast-ssd : tie.Need-cast-ssd
+cast-ssd c = search needs
+
+returns-2 : tie.Need-returns-2
+returns-2 c =
+    let a = c .before .before .before .args in
+    rw (toZ-pos w64 {n = a .t .sum} (omega (arith, c .before .before .before .pre)), lt-leb (2 ^ a .depth) (a .t .any) (div-none (a .t .any) (a .depth) (c .before .if1 .left)))
+
+pub end-spec : {M : Type 1} → statement M
+end-spec = tie.close (tie.spec shr-if1 returns cast-ssd returns-2)
