@@ -1,0 +1,256 @@
+#!/usr/bin/env python3
+"""Tables and plot out of a run's lines.
+   report.py RESULTS SETTING          prints the tables
+   report.py RESULTS SETTING docs     writes docs/BENCHMARKS.md and docs/benchmarks.svg too
+   report.py RESULTS SETTING self     RESULTS are of the Rust beside itself: how far the ratios are off 1
+Exit status 1 if an answer isn't the Rust's or a bar is missed. ./run calls it."""
+import csv
+import os
+import sys
+
+import plot
+
+DEPTHS = [8, 10, 14]
+SIZES = [2, 4, 8, 16, 32, 64]
+OBLONG = [(64, 4), (4, 64), (16, 8), (32, 2), (2, 64)]
+TRANSFORM = ["dquant", "itxb0", "itxb1", "job", "sub_block"]
+DISTORTION = ["sad_16b", "sad_16i", "sad_bi_16b", "sad_bi_16i", "ssd_16b", "ssd_16i", "diff", "satd"]
+SIGNED = ["sad_16b", "sad_bi_16b", "ssd_16i"]
+PLACES = ["corner", "left", "above", "outside"]
+# the rows of the tables by size: name, kernel, place
+ROWS = [(k, k, "") for k in TRANSFORM + DISTORTION] + [(f"{k}, corner", k, "corner") for k in SIGNED]
+COUNTED = 10  # the depth at which instructions are counted
+
+
+def bar(kernel, place, w, h):
+    """The ratio that a case must not exceed, or None."""
+    if kernel in ("itxb0", "itxb1"):
+        return 1.1 if w >= 8 else None
+    if kernel == "job":
+        return 1.1 if w >= 8 and h >= 8 else None
+    if kernel == "satd":
+        return 0.75 if w in (8, 64) else None
+    if kernel in DISTORTION:
+        if place:
+            return 0.6 if w == 64 else None
+        return {8: 0.6, 16: 0.5, 64: 0.5}.get(w)
+    return None
+
+
+def rounded(x):
+    """As printed, so that a bar is judged by the figure that the reader sees."""
+    return round(x, 2)
+
+
+class Run:
+    def __init__(self, results, setting):
+        self.cases = {}
+        self.wrong = []
+        with open(results, newline="") as f:
+            for row in csv.DictReader(f, delimiter="\t"):
+                key = row["kernel"], row["place"], int(row["width"]), int(row["height"]), int(row["depth"])
+                if row["answer"] == "same":
+                    self.cases[key] = row
+                else:
+                    self.wrong.append((key, row["answer"]))
+        with open(setting) as f:
+            self.setting = dict(line.rstrip("\n").split("\t", 1) for line in f)
+
+    def pair(self, what, *key):
+        """Ours and the Rust's, in 'ns' or 'steps'; None if it wasn't measured."""
+        row = self.cases.get(key)
+        if row is None or not row[f"ours {what}"]:
+            return None
+        return float(row[f"ours {what}"]), float(row[f"Rust {what}"])
+
+    def ratio(self, what, *key):
+        p = self.pair(what, *key)
+        return None if p is None else p[0] / p[1]
+
+    def ratios(self, kernel, place, w, h):
+        """Of the times, a figure for each depth."""
+        return " ".join(figure(self.ratio("ns", kernel, place, w, h, d)) for d in DEPTHS)
+
+    def doubt(self):
+        """The case in which the ratio of the bests is farthest from the median ratio of neighbouring batches: how far, and its name."""
+        off = {key: abs(self.ratio("ns", *key) / float(row["middle"]) - 1) for key, row in self.cases.items()}
+        worst = max(off, key=off.get)
+        return off[worst], sum(o > 0.05 for o in off.values()), f"{case_name(*worst[:4])}, depth {worst[4]}"
+
+    def bars(self):
+        """(bar, kernel, place, w, h, worst ratio over the depths) of each case that has one; ratio None: not measured."""
+        found = {}
+        keys = list(self.cases) + [key for key, _ in self.wrong]
+        for kernel, place, w, h, d in keys:
+            limit = bar(kernel, place, w, h)
+            if limit is not None:
+                found.setdefault((kernel, place, w, h), [limit]).append(self.ratio("ns", kernel, place, w, h, d))
+        for (kernel, place, w, h), (limit, *got) in found.items():
+            yield limit, kernel, place, w, h, None if None in got else max(got)
+
+
+def figure(x):
+    return "-" if x is None else f"{x:.2f}"
+
+
+def whole(x):
+    return f"{x:,.0f}" if x >= 100 else f"{x:.1f}"
+
+
+def table(head, rows):
+    """A row of which nothing was measured is left out."""
+    rows = [r for r in rows if any(c.strip("- ") for c in r[1:])]
+    lines = ["| " + " | ".join(head) + " |", "|" + "---|" * len(head)]
+    return lines + ["| " + " | ".join(r) + " |" for r in rows] if rows else ["not measured"]
+
+
+def both(pair, show=whole):
+    return "-" if pair is None else f"{show(pair[0])} / {show(pair[1])}"
+
+
+def case_name(kernel, place, w, h):
+    return f"{kernel}{', ' + place if place else ''} {w}x{h}" if place != "one line" else f"{kernel}, one line of {w}"
+
+
+def is_missed(b):
+    return b[5] is not None and rounded(b[5]) > b[0]
+
+
+def bars_part(run):
+    """A line for each group of bars, and each bar that is missed or of which nothing was measured."""
+    groups = {}
+    for b in run.bars():
+        kind = "stages and jobs" if b[1] in TRANSFORM else "SATD" if b[1] == "satd" else "positions below 0" if b[2] else "SAD, SSD, DIFF"
+        side = "8 to 64" if kind == "stages and jobs" else f"{b[3]}x{b[4]}"
+        groups.setdefault((kind, side, b[0]), []).append(b)
+    rows, bad = [], []
+    for (kind, side, limit), members in sorted(groups.items()):
+        measured = [b for b in members if b[5] is not None]
+        missed = [b for b in measured if is_missed(b)]
+        worst = max(measured, key=lambda b: b[5]) if measured else None
+        said = [f"**MISSED** by {len(missed)} of {len(members)}"] if missed else []
+        said += [f"{len(members) - len(measured)} of {len(members)} not measured"] if len(measured) < len(members) else []
+        told = "-" if worst is None else f"{figure(worst[5])} ({case_name(*worst[1:5])})"
+        rows.append([kind, side, f"{limit}", told, ", ".join(said) or "met"])
+        bad += [b for b in members if b[5] is None or is_missed(b)]
+    lines = table(["kernels", "size", "bar", "largest ratio", ""], rows)
+    if bad:
+        lines += [""] + [f"- **{told_bar(b)}**" for b in bad]
+    return lines, bad
+
+
+def told_bar(b):
+    name = f"{case_name(*b[1:5])}, bar {b[0]}"
+    return f"MISSED: {name}: {figure(b[5])}" if b[5] is not None else f"NOT MEASURED: {name}"
+
+
+def wrong_part(run):
+    """Cases by kernel and what was answered instead."""
+    groups = {}
+    for (kernel, place, w, h, d), said in run.wrong:
+        groups.setdefault((kernel, said), []).append(f"{w}x{h}{' ' + place if place else ''} at {d}")
+    return [f"- {kernel}, {said}: {len(cases)} cases ({', '.join(cases[:6])}{', ..' if len(cases) > 6 else ''})" for (kernel, said), cases in groups.items()]
+
+
+def tables(run):
+    """The body of the report: lines, and the bars that are not met."""
+    out = []
+    if run.wrong:
+        out += ["## Not measured", ""]
+        out += wrong_part(run) + [""]
+    lines, bad = bars_part(run)
+    out += ["## Bars", "", "Times, the largest ratio of the three depths.", ""] + lines + [""]
+
+    out += ["## Time, ours / Rust, at depths 8, 10 and 14", ""]
+    out += table([""] + [str(s) for s in SIZES], [[name] + [run.ratios(k, p, s, s) for s in SIZES] for name, k, p in ROWS]) + [""]
+    out += ["Positions below 0, 64x64; which rows and columns read as 0:", ""]
+    told = {"corner": "half of both", "left": "half of the columns", "above": "half of the rows", "outside": "all"}
+    out += table([""] + [told[p] for p in PLACES], [[k] + [run.ratios(k, p, 64, 64) for p in PLACES] for k in SIGNED]) + [""]
+    out += ["Oblong jobs (width x height) and one line of 64:", ""]
+    head = [f"job {w}x{h}" for w, h in OBLONG] + ["itxb0, one line", "itxb1, one line"]
+    cells = [run.ratios("job", "", w, h) for w, h in OBLONG] + [run.ratios(k, "one line", 64, 1) for k in ("itxb0", "itxb1")]
+    out += table(head, [cells]) + [""]
+
+    for what, title in ("ns", "Nanoseconds a call at depth 10, ours / Rust"), ("steps", "Instructions a call on x86-64 at depth 10, ours / Rust"):
+        out += [f"## {title}", ""]
+        show = whole if what == "ns" else lambda x: f"{x:,.0f}"
+        rows = [[name] + [both(run.pair(what, k, p, s, s, COUNTED), show) for s in SIZES] for name, k, p in ROWS]
+        out += table([""] + [str(s) for s in SIZES], rows) + [""]
+        cells = [both(run.pair(what, "job", "", w, h, COUNTED), show) for w, h in OBLONG]
+        cells += [both(run.pair(what, k, "one line", 64, 1, COUNTED), show) for k in ("itxb0", "itxb1")]
+        out += table(head, [cells]) + [""]
+    if any(run.ratio("steps", *key) is not None for key in run.cases):
+        out += ["As ratios:", ""]
+        rows = [[name] + [figure(run.ratio("steps", k, p, s, s, COUNTED)) for s in SIZES] for name, k, p in ROWS]
+        out += table([""] + [str(s) for s in SIZES], rows) + [""]
+        cells = [figure(run.ratio("steps", "job", "", w, h, COUNTED)) for w, h in OBLONG]
+        cells += [figure(run.ratio("steps", k, "one line", 64, 1, COUNTED)) for k in ("itxb0", "itxb1")]
+        out += table(head, [cells]) + [""]
+    return out, bad
+
+
+def setting(run):
+    s = run.setting
+    far, many, name = run.doubt()
+    return [
+        f"- Processor: {s['processor']}. {s['system']}.",
+        f"- Rust: {s['rustc']}, `{s['flags']}`, no target-cpu.",
+        f"- Library: `{s['rt']}`; {s['archive']}",
+        f"- The ratio of the bests against the median ratio of batches run one after the other: {far:.0%} apart in the worst case ({name}), more than 5% in"
+        f" {many} of {len(run.cases)} cases.",
+        f"- Load of the machine (one minute): {s['load']}. {s['date']}.",
+    ]
+
+
+def chance(run):
+    """The Rust beside itself."""
+    rows = []
+    for low, high, name in (0, 30, "below 30 ns"), (30, 300, "30 to 300 ns"), (300, 1e12, "300 ns and more"):
+        off = [abs(p[0] / p[1] - 1) for key in run.cases for p in [run.pair("ns", *key)] if low <= p[1] < high]
+        if off:
+            off.sort()
+            rows.append([name, str(len(off)), f"{off[len(off) // 2]:.3f}", f"{off[-1]:.3f}"])
+    return table(["calls of", "cases", "median off 1", "largest off 1"], rows)
+
+
+def main():
+    results, settings, *what = sys.argv[1:]
+    run = Run(results, settings)
+    if what == ["self"]:
+        print("\n".join(chance(run) + [""] + setting(run)))
+        return 0
+    body, bad = tables(run)
+    print("\n".join(body + setting(run)))
+    if what == ["docs"]:
+        here = os.path.dirname(os.path.abspath(__file__))
+        docs = os.path.join(os.path.dirname(here), "docs")
+        own = os.path.join(os.path.dirname(results), "self-")
+        with open(os.path.join(here, "words.md")) as f:
+            words = f.read()
+        noise = "not run" if not os.path.exists(own + "results.tsv") else "\n".join(chance(Run(own + "results.tsv", own + "setting.tsv")))
+        for name, text in ("SETTING", "\n".join(setting(run))), ("CHANCE", noise), ("TABLES", "\n".join(body).rstrip()):
+            words = words.replace(f"<!-- {name} -->", text)
+        with open(os.path.join(docs, "BENCHMARKS.md"), "w") as f:
+            f.write(words)
+        with open(os.path.join(docs, "benchmarks.svg"), "w") as f:
+            f.write(
+                plot.panels(
+                    [
+                        ("Transform", SIZES, {k: [run.ratio("ns", k, "", s, s, 10) for s in SIZES] for k in TRANSFORM}, 1.1),
+                        ("SAD, SSD, DIFF, SATD", SIZES, {k: [run.ratio("ns", k, "", s, s, 10) for s in SIZES] for k in DISTORTION}, None),
+                        ("Positions below 0", SIZES, {k: [run.ratio("ns", k, "corner", s, s, 10) for s in SIZES] for k in SIGNED}, None),
+                    ]
+                )
+            )
+    print()
+    for line in wrong_part(run):
+        print(f"WRONG: {line[2:]}")
+    for b in bad:
+        print(told_bar(b))
+    missed = sum(is_missed(b) for b in bad)
+    print(f"{len(run.cases)} cases measured, {len(run.wrong)} without the Rust's answer; bars: {missed} missed, {len(bad) - missed} not measured")
+    return 1 if run.wrong or bad else 0
+
+
+if __name__ == "__main__":
+    sys.exit(main())
