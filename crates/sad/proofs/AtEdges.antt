@@ -1,7 +1,7 @@
 -- Blocks at positions that may be negative: that an accepted call reads inside the plane; and how such a block is read where it stands, or from
 -- the packed block that holds it. Assumes nothing.
 use mathlib.Core.Path.{_≡_, refl, sym, ap, ap₂, _∙_, subst, subst₂}
-use mathlib.Core.Bool.{Bool, true, false, _||_}
+use mathlib.Core.Bool.{false, _||_}
 use mathlib.Core.List.{List}
 use Prim.Native.Nat.{ℕ, _+_, _*_, _-_, _≤_, _<_}
 use native.Mathlib.Nat.{add-mul, mul-le-mul-right}
@@ -23,8 +23,8 @@ use Rattle.sad.specs.Areas.{planeOf, badPlane, outsideEdges}
 use Rattle.sad.specs.Totals.{cell}
 use Rattle.sad.specs.Rests.{strided}
 use Rattle.sad.specs.Edges.{edgeCell, edgeAt, edged, EdgesIn, Plain}
-use Rattle.sad.proofs.Booleans.{or-left, or-right, WellFormed, well-formed}
-use Rattle.sad.proofs.Signed.{sum-parts, not-past, edge-up}
+use Rattle.sad.proofs.Booleans.{or-left, or-right, well-formed}
+use Rattle.sad.proofs.Signed.{sum-parts, not-past}
 use Rattle.sad.proofs.Grid.{rows-flat}
 use Rattle.sad.proofs.Replies.{Alike}
 

@@ -1,10 +1,10 @@
 -- Rows of a block: what a row's values are, what two rows told says of two blocks, and how much the rows may add up to. Assumes nothing.
-use mathlib.Core.Path.{_≡_, refl, sym, ap, ap₂, _∙_, subst}
+use mathlib.Core.Path.{_≡_, sym, ap, ap₂, _∙_, subst}
 use mathlib.Core.List.{List}
 use Prim.Native.Nat.{ℕ, _+_, _-_, _*_, _≤_, _<_}
 use native.Mathlib.Nat.{le-trans, le-of-eq, mul-le-mul-right}
 use native.Mathlib.Omega.{arith}
-use lib.ListN.{length, getD, take, drop, length-take, length-drop}
+use lib.ListN.{length, getD, length-take, length-drop}
 use lib.Seq.{getD-take, getD-drop}
 use Rattle.integers.specs.Sum.{ofN+, sumN}
 use Rattle.integers.proofs.Sum.{sum-ext, sum-le}

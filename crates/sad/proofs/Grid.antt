@@ -1,6 +1,6 @@
 -- A loop that writes a packed block row by row, each row as a part lent on: after j rows of w the list is `written (j · w)`. Assumes nothing.
-use mathlib.Core.Path.{_≡_, refl, sym, ap, ap₂, _∙_}
-use mathlib.Core.List.{List, [], _∷_, _++_, append-assoc}
+use mathlib.Core.Path.{_≡_, sym, ap, ap₂, _∙_}
+use mathlib.Core.List.{List, _∷_, _++_, append-assoc}
 use Prim.Native.Nat.{ℕ, zero, suc, _+_, _*_, _-_, _≤_, _<_}
 use native.Mathlib.Nat.{mul-le-mul-right, zero-add, suc-add, add-mul, le-antisymm}
 use native.Mathlib.Omega.{arith}

@@ -1,6 +1,6 @@
 -- Laws that belong lower.
 -- ---- for integers
-use mathlib.Core.Path.{_≡_, refl, sym, ap, _∙_}
+use mathlib.Core.Path.{_≡_, ap, _∙_}
 use Prim.Native.Nat.{ℕ, _+_, _-_, _/_, _^_, _≤_, _<_}
 use native.Mathlib.Nat.{div-eq-of-lt, div-lt-iff-lt-mul}
 use native.Mathlib.Decide.{decLt}

@@ -1,16 +1,16 @@
 -- Blocks inside planes: that their rows lie inside the buffer, and that they are read as the definitions read them. Assumes nothing.
-use mathlib.Core.Path.{_≡_, refl, sym, ap, _∙_}
-use mathlib.Core.Bool.{Bool, true, false, _||_}
+use mathlib.Core.Path.{_≡_, refl, ap}
+use mathlib.Core.Bool.{false, _||_}
 use mathlib.Core.List.{List}
-use Prim.Native.Nat.{ℕ, _+_, _*_, _-_, _≤_, _<_}
+use Prim.Native.Nat.{ℕ, _+_, _*_, _-_, _≤_}
 use native.Mathlib.Nat.{add-mul, mul-le-mul-right}
 use native.Mathlib.Omega.{arith}
 use lib.Dec.{ltb}
-use lib.ListN.{length, getD}
+use lib.ListN.{getD}
 use lib.IntN.{ℤ, pos}
 use borrow.Author.Tests.{ltb-false}
 use Rattle.order.specs.Positions.{reach}
-use Rattle.evc.specs.Planes.{Plane, Block, inPlane, biPacked}
+use Rattle.evc.specs.Planes.{inPlane, biPacked}
 use Rattle.sad.specs.Areas.{planeOf, badPlane, outsidePlane}
 use Rattle.sad.specs.Totals.{cell}
 use Rattle.sad.specs.Rests.{strided, biRows}

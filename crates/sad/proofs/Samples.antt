@@ -1,5 +1,5 @@
 -- How large what two samples of 16 bits add to a total can be. Assumes nothing.
-use Prim.Native.Nat.{ℕ, _*_, _/_, _^_, _≤_}
+use Prim.Native.Nat.{ℕ, _*_, _^_, _≤_}
 use native.Mathlib.Nat.{le-trans, mul-le-mul, div-le-self}
 use Rattle.sad.specs.Totals.{apart, squared}
 use Rattle.sad.proofs.Laws.{abs-dif-le}

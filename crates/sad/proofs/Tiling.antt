@@ -1,6 +1,6 @@
 -- Tiles of two tested blocks, of any side n: a part of tested blocks is tested; what a tile's differences are; that its number is that of the
 -- definition, and how large it can be. Assumes nothing.
-use mathlib.Core.Path.{_≡_, refl, sym, ap, ap₂, _∙_}
+use mathlib.Core.Path.{_≡_, ap, ap₂, _∙_}
 use mathlib.Core.List.{List, []}
 use Prim.Native.Nat.{ℕ, _+_, _-_, _*_, _/_, _%_, _^_, _≤_, _<_}
 use mathlib.Core.Bool.{Bool, true, false, _||_}
@@ -8,7 +8,7 @@ use native.Mathlib.Nat.{add-mul, mul-le-mul, mul-le-mul-right, le-trans, div-add
 use native.Mathlib.Omega.{arith}
 use lib.Dec.{eqb}
 use lib.IntN.{ℤ, pos, natAbs, _-ℤ_, _*ℤ_}
-use lib.ListN.{length, getD}
+use lib.ListN.{getD}
 use Rattle.integers.specs.Lists.{tab}
 use Rattle.integers.specs.Sum.{ofZ+, ofN+, sumZ, sumN}
 use Rattle.integers.proofs.Sum.{sum-ext, sum-le}
@@ -21,8 +21,8 @@ use Rattle.evc.specs.Differences.{difference}
 use Rattle.evc.specs.Calls.{compareTests, sampleTests, satdSizes, satdReply}
 use Rattle.hadamard.specs.Passes.{entry}
 use Rattle.hadamard.proofs.Most.{number-most}
-use Rattle.sad.specs.Totals.{TwoBlocks, rowOf, cell}
-use Rattle.sad.specs.Small.{SmallBlocks, Tested, apartFrom}
+use Rattle.sad.specs.Totals.{rowOf, cell}
+use Rattle.sad.specs.Small.{Tested, apartFrom}
 use Rattle.sad.specs.Rests.{rest}
 use Rattle.sad.proofs.Laws.{abs-dif-le}
 use Rattle.sad.proofs.Cells.{row-at}

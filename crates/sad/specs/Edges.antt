@@ -1,11 +1,10 @@
 -- Samples at positions that may be negative. Cited by the contracts of src/edges.rt and of its callers. Assumes nothing.
 use mathlib.Core.Bool.{false}
 use mathlib.Core.List.{List}
-use mathlib.Core.Path.{_≡_}
 use Prim.Native.Nat.{ℕ, suc, _+_, _*_, _/_, _%_, _≤_, _<_}
 use lib.IntN.{ℤ, pos, negsuc, _+ℤ_}
 use lib.Signed.{_≤ℤ_}
-use lib.ListN.{length, getD}
+use lib.ListN.{getD}
 use Rattle.order.specs.Positions.{reach}
 use Rattle.evc.specs.Planes.{Block, edge, tooLarge}
 

@@ -1,6 +1,6 @@
 -- OR as an addition of numbers, so that every law of sums holds of it: `orN n f` is f 0 OR f 1 OR .. f (n-1).
 -- Cited by specs/Totals.antt. Assumes nothing.
-use mathlib.Core.Path.{_≡_, refl, sym, ap, ap₂, _∙_}
+use mathlib.Core.Path.{_≡_, sym, ap, ap₂, _∙_}
 use Prim.Native.Nat.{ℕ, _*_, _+_, _/_, _%_, max, _≤_}
 use native.Mathlib.Nat.{le-antisymm, le-trans, max-le, le-max-left, le-max-right}
 use native.Mathlib.Omega.{arith}

@@ -1,10 +1,9 @@
 -- `bi::sad_rows` meets its contract. Assumes nothing.
-use Prim.Native.Nat.{ℕ, _+_, _-_, _*_, _≤_, _<_}
+use Prim.Native.Nat.{_-_, _*_, _≤_}
 use native.Mathlib.Nat.{le-trans, mul-le-mul-right}
 use native.Mathlib.Omega.{arith}
-use mathlib.Core.Path.{_≡_}
 use lib.Bits.{bitOr}
-use lib.IntN.{ℤ, pos}
+use lib.IntN.{pos}
 use Rattle.integers.specs.Sum.{sumN}
 use Rattle.sad.specs.Or.{orN}
 use Rattle.sad.specs.Totals.{Told, apartBi, lowMark, cell}

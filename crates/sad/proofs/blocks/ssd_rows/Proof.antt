@@ -1,10 +1,7 @@
 -- `ssd_rows` meets its contract. Assumes nothing.
-use Prim.Native.Nat.{ℕ, _+_, _-_, _*_, _≤_, _<_}
+use Prim.Native.Nat.{ℕ, _+_, _-_, _*_, _≤_}
 use native.Mathlib.Omega.{arith}
-use mathlib.Core.Path.{_≡_, refl, sym, ap, _∙_}
-use mathlib.Core.List.{List}
 use lib.Bits.{bitOr}
-use lib.ListN.{length, getD}
 use Rattle.integers.specs.Sum.{sumN}
 use Rattle.sad.specs.Or.{orN}
 use Rattle.sad.specs.Totals.{Told, squared, cell}
@@ -13,10 +10,6 @@ use Rattle.sad.proofs.Running.{Running, running-start, running-step, ru
 use Rattle.sad.proofs.Cells.{in-one, in-two, two-rows, told-rows, row-most}
 use Rattle.sad.proofs.blocks.ssd_rows.Statement.{statement}
 use Rattle.sad.proofs.blocks.ssd_rows.Tie as tie
-use Rattle.sad.proofs.blocks.ssd_rows.Reads as reads
-use Rattle.sad.proofs.blocks.ssd_rows.Lts as lts
-use Rattle.sad.proofs.rows.row.Reads as row-reads
-use Rattle.sad.proofs.rows.ssd_row.Reads as ssd-row-reads
 
 abbrev Inv-loop : tie.InvT-loop
 Inv-loop a a-at a-stride b b-at b-stride w h shift sum₀ any₀ j₀ sum any j =

@@ -1,11 +1,10 @@
 -- `diff_block` meets its contract. Assumes nothing.
-use mathlib.Core.Path.{_≡_, sym, ap, _∙_, subst}
+use mathlib.Core.Path.{_≡_, sym, ap, _∙_}
 use mathlib.Core.List.{List}
 use Prim.Native.Nat.{ℕ, _*_}
 use lib.IntN.{ℤ}
 use Rattle.integers.specs.Lists.{written}
-use Rattle.evc.specs.Differences.{difference, diffAt}
-use Rattle.sad.specs.Rests.{strided}
+use Rattle.evc.specs.Differences.{diffAt}
 use Rattle.sad.proofs.Cells.{ready-at}
 use borrow.Author.Needs.{needs}
 use Rattle.sad.proofs.diff.diff_block.Statement.{statement}

@@ -1,6 +1,6 @@
 -- `diff_row` meets its contract. Assumes nothing.
-use mathlib.Core.Path.{_≡_, refl, sym, ap, _∙_}
-use Prim.Native.Nat.{ℕ, _-_}
+use mathlib.Core.Path.{sym, _∙_}
+use Prim.Native.Nat.{_-_}
 use native.Mathlib.Omega.{arith}
 use lib.ListN.{getD}
 use lib.IntN.{ℤ, pos, _-ℤ_}
@@ -9,9 +9,6 @@ use Rattle.integers.proofs.Bits.{back}
 use Rattle.integers.proofs.Loop.{Filled, filled-start, filled-step, filled-end}
 use Rattle.sad.proofs.diff.diff_row.Statement.{statement}
 use Rattle.sad.proofs.diff.diff_row.Tie as tie
-use Rattle.sad.proofs.diff.diff_row.Reads as reads
-use Rattle.sad.proofs.diff.diff_row.Lts as lts
-use Rattle.sad.proofs.diff.minus.Reads as minus-reads
 
 abbrev Inv-loop : tie.InvT-loop
 Inv-loop a b w out₀ i₀ out i = Filled ℤ (pos 0) w (λ k. pos (getD a k 0) -ℤ pos (getD b k 0)) out i

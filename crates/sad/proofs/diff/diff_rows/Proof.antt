@@ -1,23 +1,18 @@
 -- `diff_rows` meets its contract. Assumes nothing.
-use mathlib.Core.Path.{_≡_, refl, sym, ap, ap₂, _∙_}
+use mathlib.Core.Path.{_≡_, sym, ap, ap₂, _∙_}
 use mathlib.Core.List.{List}
-use Prim.Native.Nat.{ℕ, _+_, _*_, _-_, _≤_, _<_}
+use Prim.Native.Nat.{ℕ, _+_, _*_, _-_, _≤_}
 use native.Mathlib.Omega.{arith}
 use lib.ListN.{length, getD}
-use lib.IntN.{ℤ, pos, _-ℤ_}
-use Rattle.integers.specs.Lists.{tab, written}
+use lib.IntN.{pos, _-ℤ_}
+use Rattle.integers.specs.Lists.{tab}
 use Rattle.integers.proofs.Written.{tab-ext, grid-at}
 use Rattle.evc.specs.Differences.{difference, diffAt}
-use Rattle.sad.specs.Totals.{cell}
 use Rattle.sad.specs.Rests.{strided}
 use Rattle.sad.proofs.Cells.{in-one, in-two, two-rows, row-at, small-rows}
 use Rattle.sad.proofs.Grid.{Wrote, wrote-start, wrote-row, wrote-end, wrote-long, row-room, row-long}
 use Rattle.sad.proofs.diff.diff_rows.Statement.{statement}
 use Rattle.sad.proofs.diff.diff_rows.Tie as tie
-use Rattle.sad.proofs.diff.diff_rows.Reads as reads
-use Rattle.sad.proofs.diff.diff_rows.Lts as lts
-use Rattle.sad.proofs.diff.diff_row.Reads as diff-row-reads
-use Rattle.sad.proofs.rows.row.Reads as row-reads
 
 abbrev Inv-loop : tie.InvT-loop
 Inv-loop a a-at a-stride b b-at b-stride w h out₀ j₀ out j =

@@ -1,7 +1,7 @@
 -- `evce_diff_16b` meets its contract: each refusal is the first broken test, and what is left is read alike. Assumes nothing.
-use mathlib.Core.Path.{_≡_, refl, sym, ap, _∙_}
+use mathlib.Core.Path.{_≡_, refl, sym, _∙_}
 use mathlib.Core.Bool.{false, _||_}
-use Prim.Native.Nat.{ℕ, _+_, _*_, _-_, _^_, _≤_, _<_}
+use Prim.Native.Nat.{ℕ, _+_, _*_, _-_}
 use native.Mathlib.Nat.{mul-le-mul}
 use native.Mathlib.Omega.{arith}
 use borrow.Author.Needs.{needs}
@@ -13,7 +13,7 @@ use Rattle.sad.specs.Areas.{planeOf, outsidePlane}
 use Rattle.sad.specs.Totals.{TwoBlocks}
 use Rattle.sad.proofs.Booleans.{inside}
 use Rattle.sad.proofs.Planes.{is-inside, rows-inside, plane-alike}
-use Rattle.sad.proofs.Differing.{rows-are, differed-alike, diff-size, diff-depth, diff-area, diff-second, diff-room, diff-rest}
+use Rattle.sad.proofs.Differing.{differed-alike, diff-size, diff-depth, diff-area, diff-second, diff-room, diff-rest}
 use Rattle.sad.proofs.Logs.{logs-small, side-small}
 use Rattle.sad.proofs.diff.evce_diff_16b.Statement.{statement}
 use Rattle.sad.proofs.diff.evce_diff_16b.Tie as tie

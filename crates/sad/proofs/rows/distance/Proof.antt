@@ -1,5 +1,4 @@
 -- `distance` meets its contract. Assumes nothing.
-use mathlib.Core.Path.{sym, _∙_}
 use native.Mathlib.Omega.{arith}
 use Rattle.sad.specs.Totals.{apart}
 use Rattle.sad.proofs.Laws.{abs-dif}

@@ -1,20 +1,15 @@
 -- `sad_row` meets its contract. Assumes nothing.
-use Prim.Native.Nat.{ℕ, _+_, _-_, _*_, _≤_, _<_}
+use Prim.Native.Nat.{ℕ, _-_, _≤_}
 use native.Mathlib.Omega.{arith}
-use mathlib.Core.Path.{_≡_, refl, sym, ap, _∙_}
-use mathlib.Core.List.{List}
+use mathlib.Core.Path.{refl}
 use lib.Bits.{bitOr}
 use lib.ListN.{getD}
-use mir.Val.{Fits}
-use Rattle.sad.specs.Totals.{apart, squared}
+use Rattle.sad.specs.Totals.{apart}
 use Rattle.sad.proofs.Samples.{apart-le}
 use Rattle.sad.proofs.Running.{Running, running-start, running-step, running-end, running-next}
 use Rattle.sad.proofs.Cells.{told-most}
 use Rattle.sad.proofs.rows.sad_row.Statement.{statement}
 use Rattle.sad.proofs.rows.sad_row.Tie as tie
-use Rattle.sad.proofs.rows.sad_row.Reads as reads
-use Rattle.sad.proofs.rows.sad_row.Lts as lts
-use Rattle.sad.proofs.rows.distance.Reads as distance-reads
 
 abbrev Inv-loop : tie.InvT-loop
 Inv-loop a b w sum₀ any₀ i₀ sum any i = Running w (λ k. apart (getD a k 0) (getD b k 0)) (λ k. bitOr (getD a k 0) (getD b k 0)) sum any i

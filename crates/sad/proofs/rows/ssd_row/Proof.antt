@@ -1,20 +1,16 @@
 -- `ssd_row` meets its contract. Assumes nothing.
-use Prim.Native.Nat.{ℕ, _+_, _-_, _*_, _/_, _^_, _≤_, _<_}
+use Prim.Native.Nat.{ℕ, _-_, _*_, _/_, _^_, _≤_}
 use native.Mathlib.Omega.{arith}
-use mathlib.Core.Path.{_≡_, refl, sym, ap, _∙_}
+use mathlib.Core.Path.{_≡_, refl, ap}
 use mathlib.Core.List.{List}
 use native.Mathlib.Nat.{div-le-self}
 use lib.Bits.{bitOr}
 use lib.ListN.{getD}
-use mir.Val.{Fits}
-use Rattle.sad.specs.Totals.{apart, squared}
+use Rattle.sad.specs.Totals.{squared}
 use Rattle.sad.proofs.Samples.{square-le, squared-le}
 use Rattle.sad.proofs.Running.{Running, running-start, running-step, running-end, running-next}
 use Rattle.sad.proofs.rows.ssd_row.Statement.{statement}
 use Rattle.sad.proofs.rows.ssd_row.Tie as tie
-use Rattle.sad.proofs.rows.ssd_row.Reads as reads
-use Rattle.sad.proofs.rows.ssd_row.Lts as lts
-use Rattle.sad.proofs.rows.distance.Reads as distance-reads
 
 abbrev Inv-loop : tie.InvT-loop
 Inv-loop a b w shift sum₀ any₀ i₀ sum any i = Running w (λ k. squared shift (getD a k 0) (getD b k 0)) (λ k. bitOr (getD a k 0) (getD b k 0)) sum any i

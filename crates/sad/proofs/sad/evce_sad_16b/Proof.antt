@@ -1,7 +1,7 @@
 -- `evce_sad_16b` meets its contract: each refusal is the first broken test, and what is left is read alike. Assumes nothing.
 use mathlib.Core.Path.{_≡_, refl, sym, ap, _∙_}
 use mathlib.Core.Bool.{false, _||_}
-use Prim.Native.Nat.{ℕ, _+_, _*_, _-_, _/_, _^_, _≤_, _<_}
+use Prim.Native.Nat.{ℕ, _+_, _*_, _-_, _/_, _^_}
 use native.Mathlib.Omega.{arith}
 use borrow.Author.Needs.{needs}
 use lib.ListN.{length}
@@ -12,8 +12,8 @@ use Rattle.sad.specs.Areas.{outsidePlane, outsideEdges}
 use Rattle.sad.specs.Rests.{strided, rest}
 use Rattle.sad.specs.Edges.{edged, AtEdges}
 use Rattle.sad.proofs.Booleans.{inside, or-left, or-right}
-use Rattle.sad.proofs.Planes.{Inside, is-inside, rows-inside, plane-alike}
-use Rattle.sad.proofs.Replies.{Alike, rest-alike, sad-alike, sad-size, sad-depth, sad-area, sad-second, sad-rest}
+use Rattle.sad.proofs.Planes.{is-inside, rows-inside, plane-alike}
+use Rattle.sad.proofs.Replies.{rest-alike, sad-alike, sad-size, sad-depth, sad-area, sad-second, sad-rest}
 use Rattle.sad.proofs.AtEdges.{edges-in, edges-alike, as-bits, of-bits}
 use Rattle.sad.proofs.sad.evce_sad_16b.Statement.{statement}
 use Rattle.sad.proofs.sad.evce_sad_16b.Tie as tie

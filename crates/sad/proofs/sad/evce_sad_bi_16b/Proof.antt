@@ -1,8 +1,7 @@
 -- `evce_sad_bi_16b` meets its contract: each refusal is the first broken test, and what is left is read alike. Assumes nothing.
-use mathlib.Core.Path.{_≡_, refl, sym, ap, _∙_}
+use mathlib.Core.Path.{_≡_, sym, ap, _∙_}
 use mathlib.Core.Bool.{false, _||_}
-use Prim.Native.Nat.{ℕ, _+_, _*_, _-_, _/_, _^_, _≤_, _<_}
-use native.Mathlib.Omega.{arith}
+use Prim.Native.Nat.{ℕ, _-_, _/_, _^_}
 use borrow.Author.Needs.{needs}
 use lib.ListN.{length}
 use Rattle.evc.specs.Answers.{distortionReading}
@@ -13,7 +12,7 @@ use Rattle.sad.specs.Rests.{biRows, rest}
 use Rattle.sad.specs.Edges.{edged, AtEdges}
 use Rattle.sad.proofs.Booleans.{inside, or-left, or-right, well-formed}
 use Rattle.sad.proofs.Planes.{bi-alike}
-use Rattle.sad.proofs.Replies.{Alike, rest-alike, sad-alike, sad-size, sad-depth, sad-area, sad-second, sad-rest}
+use Rattle.sad.proofs.Replies.{rest-alike, sad-alike, sad-size, sad-depth, sad-area, sad-second, sad-rest}
 use Rattle.sad.proofs.AtEdges.{edges-in, edges-alike, as-bits, of-bits}
 use Rattle.sad.proofs.sad.evce_sad_bi_16b.Statement.{statement}
 use Rattle.sad.proofs.sad.evce_sad_bi_16b.Tie as tie

@@ -1,7 +1,7 @@
 -- `evce_sad_bi_16i` meets its contract: each refusal is the first broken test, and what is left is read alike. Assumes nothing.
-use mathlib.Core.Path.{_≡_, refl, sym, ap, _∙_}
+use mathlib.Core.Path.{_≡_, sym, ap, _∙_}
 use mathlib.Core.Bool.{false, _||_}
-use Prim.Native.Nat.{ℕ, _+_, _*_, _-_, _/_, _^_, _≤_, _<_}
+use Prim.Native.Nat.{ℕ, _-_, _/_, _^_}
 use native.Mathlib.Omega.{arith}
 use borrow.Author.Needs.{needs}
 use lib.ListN.{length}
@@ -9,7 +9,7 @@ use Rattle.evc.specs.Tests.{outside}
 use Rattle.sad.specs.Areas.{badPlane, outsidePlane}
 use Rattle.sad.proofs.Booleans.{inside, or-left, or-right, well-formed}
 use Rattle.sad.proofs.Planes.{is-inside, plane-alike, bi-alike}
-use Rattle.sad.proofs.Replies.{Alike, rest-alike, sad-alike, sad-size, sad-depth, sad-area, sad-second, sad-rest}
+use Rattle.sad.proofs.Replies.{rest-alike, sad-alike, sad-size, sad-depth, sad-area, sad-second, sad-rest}
 use Rattle.sad.proofs.sad.evce_sad_bi_16i.Statement.{statement}
 use Rattle.sad.proofs.sad.evce_sad_bi_16i.Tie as tie
 

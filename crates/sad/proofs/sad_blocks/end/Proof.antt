@@ -1,6 +1,5 @@
 -- `end` meets its contract. Assumes nothing.
-use mathlib.Core.Path.{_≡_, refl, sym, ap, _∙_}
-use Prim.Native.Nat.{ℕ, _-_, _/_, _^_, _≤_, _<_}
+use Prim.Native.Nat.{_-_, _^_}
 use native.Mathlib.Nat.{div-le-self}
 use native.Mathlib.Omega.{arith}
 use borrow.Author.Tests.{le-leb, lt-leb}
@@ -8,8 +7,6 @@ use Rattle.sad.proofs.Laws.{div-some, div-none}
 use borrow.Author.Needs.{needs}
 use Rattle.sad.proofs.sad_blocks.end.Statement.{statement}
 use Rattle.sad.proofs.sad_blocks.end.Tie as tie
-use Rattle.sad.proofs.sad_blocks.end.Reads as reads
-use Rattle.sad.proofs.sad_blocks.end.Lts as lts
 
 shr-if1 : tie.Need-shr-if1
 shr-if1 c = search needs

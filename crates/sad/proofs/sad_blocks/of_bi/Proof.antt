@@ -1,5 +1,5 @@
 -- `of_bi` meets its contract. Assumes nothing.
-use mathlib.Core.Path.{_≡_, refl, ap, _∙_}
+use mathlib.Core.Path.{refl, ap, _∙_}
 use Prim.Native.Nat.{ℕ, _-_, _/_, _^_}
 use borrow.Author.Needs.{needs}
 use lib.IntN.{pos}

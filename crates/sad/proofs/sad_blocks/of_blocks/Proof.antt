@@ -1,6 +1,6 @@
 -- `of_blocks` meets its contract. Assumes nothing.
-use mathlib.Core.Path.{_≡_, refl, sym, ap, _∙_}
-use Prim.Native.Nat.{ℕ, _+_, _*_, _-_, _/_, _^_, _≤_, _<_}
+use mathlib.Core.Path.{refl, ap, _∙_}
+use Prim.Native.Nat.{ℕ, _+_, _*_, _-_, _/_, _^_, _≤_}
 use native.Mathlib.Omega.{arith}
 use lib.Bits.{bitOr}
 use Rattle.evc.specs.Differences.{sadTotal}
@@ -12,10 +12,6 @@ use Rattle.sad.proofs.Replies.{marked-rest}
 use borrow.Author.Needs.{needs}
 use Rattle.sad.proofs.sad_blocks.of_blocks.Statement.{statement}
 use Rattle.sad.proofs.sad_blocks.of_blocks.Tie as tie
-use Rattle.sad.proofs.sad_blocks.of_blocks.Reads as reads
-use Rattle.sad.proofs.sad_blocks.of_blocks.Lts as lts
-use Rattle.sad.proofs.blocks.sad_block.Reads as sad-block-reads
-use Rattle.sad.proofs.sad_blocks.end.Reads as end-reads
 
 sad-block-requires : tie.Need-sad-block-requires
 sad-block-requires c κs = search needs

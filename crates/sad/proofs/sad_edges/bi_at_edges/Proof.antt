@@ -1,12 +1,12 @@
 -- `bi_at_edges` meets its contract. Assumes nothing.
 use mathlib.Core.Path.{_≡_}
-use Prim.Native.Nat.{ℕ, _*_, _-_, _/_, _^_, _≤_}
+use Prim.Native.Nat.{_-_, _/_, _^_}
 use native.Mathlib.Nat.{mul-le-mul}
 use borrow.Author.Needs.{needs}
 use lib.ListN.{length}
 use Rattle.evc.specs.Answers.{distortionReading}
 use Rattle.evc.specs.Differences.{difference, sadTotal}
-use Rattle.sad.specs.Rests.{strided, biRows, rest}
+use Rattle.sad.specs.Rests.{biRows, rest}
 use Rattle.sad.specs.Edges.{edged, AtEdges}
 use Rattle.sad.proofs.AtEdges.{as-bits, of-bits}
 use Rattle.sad.proofs.sad_edges.bi_at_edges.Statement.{statement}

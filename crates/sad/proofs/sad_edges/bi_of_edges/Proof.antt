@@ -1,16 +1,15 @@
 -- `bi_of_edges` meets its contract. Assumes nothing.
-use mathlib.Core.Path.{_≡_, refl, sym, ap, ap₂, _∙_}
-use mathlib.Core.Bool.{Bool, false, _||_}
-use Prim.Native.Nat.{ℕ, _+_, _*_, _-_, _/_, _^_, _≤_, _<_}
+use mathlib.Core.Path.{_≡_, sym, ap, ap₂, _∙_}
+use mathlib.Core.Bool.{_||_}
+use Prim.Native.Nat.{ℕ, _+_, _*_, _-_, _/_, _^_, _<_}
 use native.Mathlib.Omega.{arith}
 use borrow.Author.Needs.{needs}
 use lib.IntN.{ℤ, pos, natAbs}
 use lib.Signed.{ltZ}
-use lib.ListN.{length}
 use mir.Facts.{toZ-ofZ}
 use Rattle.evc.specs.Answers.{distortionReading}
 use Rattle.evc.specs.Differences.{difference, sadTotal}
-use Rattle.sad.specs.Rests.{strided, biRows, rest}
+use Rattle.sad.specs.Rests.{biRows, rest}
 use Rattle.sad.specs.Edges.{edged, Plain}
 use Rattle.sad.proofs.Replies.{alike, rest-alike, sad-alike}
 use Rattle.sad.proofs.AtEdges.{as-bits, of-bits, is-plain, plain-alike, plain-inside}

@@ -1,11 +1,7 @@
 -- `bi_through` meets its contract. Assumes nothing.
-use mathlib.Core.Path.{_≡_, refl, sym, ap, _∙_, subst}
-use mathlib.Core.List.{List}
-use Prim.Native.Nat.{ℕ, _*_, _-_, _/_, _^_}
-use native.Mathlib.Omega.{arith}
+use mathlib.Core.Path.{ap, _∙_}
+use Prim.Native.Nat.{ℕ, _-_, _/_, _^_}
 use borrow.Author.Needs.{needs}
-use lib.IntN.{ℤ}
-use lib.ListN.{length}
 use mir.Syntax.{w16}
 use mir.Val.{toZ, ofZ}
 use Rattle.sad.specs.Rests.{strided, biRows}

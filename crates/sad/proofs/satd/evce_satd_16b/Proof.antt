@@ -1,7 +1,7 @@
 -- `evce_satd_16b` meets its contract: each refusal is the first broken test, and what is left is read alike. Assumes nothing.
 use mathlib.Core.Path.{_≡_, refl, sym, ap, _∙_}
 use mathlib.Core.Bool.{false, _||_}
-use Prim.Native.Nat.{ℕ, _+_, _*_, _-_, _/_, _%_, _^_, _≤_, _<_}
+use Prim.Native.Nat.{ℕ, _+_, _*_, _-_, _/_, _%_, _^_}
 use native.Mathlib.Omega.{arith}
 use borrow.Author.Needs.{needs}
 use lib.ListN.{length}
@@ -11,7 +11,7 @@ use Rattle.evc.specs.Tiles.{tileSide}
 use Rattle.sad.specs.Areas.{outsidePlane}
 use Rattle.sad.specs.Totals.{TwoBlocks}
 use Rattle.sad.proofs.Booleans.{inside, or-left, or-right}
-use Rattle.sad.proofs.Planes.{Inside, is-inside, rows-inside, plane-alike}
+use Rattle.sad.proofs.Planes.{is-inside, rows-inside, plane-alike}
 use Rattle.sad.proofs.Replies.{rest-alike}
 use Rattle.sad.proofs.Tiling.{satd-alike, satd-size, satd-depth, satd-area, satd-second, satd-rest}
 use Rattle.sad.proofs.satd.evce_satd_16b.Statement.{statement}

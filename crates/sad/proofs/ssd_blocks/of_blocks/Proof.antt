@@ -1,6 +1,6 @@
 -- `of_blocks` meets its contract. Assumes nothing.
-use mathlib.Core.Path.{_≡_, refl, sym, ap, _∙_}
-use Prim.Native.Nat.{ℕ, _+_, _*_, _-_, _/_, _^_, _≤_, _<_}
+use mathlib.Core.Path.{refl, ap, _∙_}
+use Prim.Native.Nat.{ℕ, _+_, _*_, _-_, _≤_}
 use native.Mathlib.Omega.{arith}
 use lib.IntN.{pos}
 use lib.Bits.{bitOr}
@@ -13,10 +13,6 @@ use Rattle.sad.proofs.Replies.{marked-rest}
 use borrow.Author.Needs.{needs}
 use Rattle.sad.proofs.ssd_blocks.of_blocks.Statement.{statement}
 use Rattle.sad.proofs.ssd_blocks.of_blocks.Tie as tie
-use Rattle.sad.proofs.ssd_blocks.of_blocks.Reads as reads
-use Rattle.sad.proofs.ssd_blocks.of_blocks.Lts as lts
-use Rattle.sad.proofs.blocks.ssd_block.Reads as ssd-block-reads
-use Rattle.sad.proofs.ssd_blocks.end.Reads as end-reads
 
 sub-ssd-block : tie.Need-sub-ssd-block
 sub-ssd-block c = omega (arith, c .before .before .pre)

@@ -1,13 +1,8 @@
 -- `malformed` meets its contract. Assumes nothing.
-use mathlib.Core.Path.{_≡_, refl, sym, _∙_}
-use mathlib.Core.Bool.{Bool, _||_}
-use native.Mathlib.Omega.{arith}
+use mathlib.Core.Path.{sym, _∙_}
 use borrow.Author.Needs.{needs}
 use borrow.Author.Tests.{lt-ltb, le-ltb}
-use lib.Dec.{ltb}
-use Rattle.order.specs.Positions.{reach}
-use Rattle.evc.specs.Tests as of
-use Rattle.sad.proofs.Booleans.{or-first, or-rest, inside}
+use Rattle.sad.proofs.Booleans.{inside}
 use Rattle.sad.proofs.tests.malformed.Statement.{statement}
 use Rattle.sad.proofs.tests.malformed.Tie as tie
 

@@ -1,6 +1,6 @@
 -- `tiles4::across` meets its contract. Assumes nothing.
 use mathlib.Core.Path.{_≡_}
-use Prim.Native.Nat.{ℕ, _+_, _*_, _-_, _/_, _≤_, _<_}
+use Prim.Native.Nat.{_+_, _*_, _-_, _/_}
 use native.Mathlib.Omega.{arith}
 use Rattle.integers.specs.Sum.{ofN+}
 use Rattle.integers.proofs.Loop.{Summed, summed-start, summed-step, summed-end, summed-next}
