@@ -1,6 +1,6 @@
 -- What a block that is handed over by value, an array of arrays, tells of its entries: each fits, past the ends too, where it is 0.
 -- Assumes nothing.
--- ---- for integers
+-- ---- laws of numbers and lists
 use mathlib.Core.List.{List, [], _∷_}
 use Prim.Native.Nat.{ℕ, zero, suc, _<_, _^_, _≤_}
 use lib.ListN.{getD}

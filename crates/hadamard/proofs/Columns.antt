@@ -1,6 +1,6 @@
 -- The invariant of a loop that fills a block column by column, each turn's stores written out: `Columns n F out j` says that the first j
 -- columns are filled. It has its start, its turn and its end. First what a turn's stores leave. Assumes nothing.
--- ---- for integers
+-- ---- laws of numbers and lists
 use mathlib.Core.Path.{_≡_, refl, sym, ap, _∙_, subst}
 use mathlib.Core.List.{List, []}
 use Prim.Native.Nat.{ℕ, zero, suc, _+_, _≤_, _<_}

@@ -1,5 +1,5 @@
 -- A tile's number is bounded by its differences: with `number-most` a caller shows that its total of tiles fits. Assumes nothing.
--- ---- for evc
+-- ---- laws of the definitions
 use Prim.Native.Nat.{ℕ, zero, suc, _+_, _*_, _/_, _≤_, _<_}
 use mathlib.Core.Bool.{Bool, true, false, cond}
 use native.Mathlib.Nat.{le-trans, div-le-self}

@@ -1,4 +1,4 @@
--- ---- for evc (Readings): what a `match` on an answer tells of its reading. Assumes nothing.
+-- What a `match` on an answer tells of its reading. Assumes nothing.
 use Prim.Native.Nat.{ℕ}
 use native.Mathlib.Omega.{arith}
 use mathlib.Core.Path.{_≡_, refl}

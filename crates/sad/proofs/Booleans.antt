@@ -10,7 +10,7 @@ use Rattle.order.specs.Positions.{reach}
 use Rattle.evc.specs.Tests.{outside}
 use Rattle.sad.specs.Areas.{badPlane}
 
--- ---- for integers
+-- ---- laws of numbers and lists
 -- two tests of order are the same where each says the other
 pub ltb-same : (a b c d : ℕ) → (a < b → c < d) → (c < d → a < b) → ltb a b ≡ ltb c d
 ltb-same a b c d f g = go (ltb a b) (ltb c d) refl refl

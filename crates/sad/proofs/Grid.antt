@@ -10,7 +10,7 @@ use Rattle.order.specs.Positions.{reach}
 use Rattle.integers.specs.Lists.{tab, written}
 use Rattle.integers.proofs.Written.{tab-length, tab-ext, written-none, written-length}
 
--- ---- for integers
+-- ---- laws of numbers and lists
 -- two ranges, one after the other
 pub tab-append : {A : Type 0} (n w : ℕ) (g : ℕ → A) → tab n g ++ tab w (λ i. g (n + i)) ≡ tab (n + w) g
 unfolding tab

@@ -1,5 +1,4 @@
--- Laws that belong lower.
--- ---- for integers
+-- Laws of division and powers that several proofs share. Assumes nothing.
 use mathlib.Core.Path.{_≡_, ap, _∙_}
 use Prim.Native.Nat.{ℕ, _+_, _-_, _/_, _^_, _≤_, _<_}
 use native.Mathlib.Nat.{div-eq-of-lt, div-lt-iff-lt-mul}

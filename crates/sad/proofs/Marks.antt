@@ -17,7 +17,7 @@ use Rattle.sad.proofs.Booleans.{or-left, or-right}
 use Rattle.sad.specs.Or.{ofOr, orN}
 use Rattle.sad.specs.Totals.{lowMark}
 
--- ---- for integers
+-- ---- laws of numbers and lists
 pub or-reaches : (k a b : ℕ) → leb (2 ^ k) (bitOr a b) ≡ leb (2 ^ k) a || leb (2 ^ k) b
 or-reaches k a b = go (leb (2 ^ k) a) (leb (2 ^ k) b) refl refl
   where

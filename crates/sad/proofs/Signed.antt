@@ -17,7 +17,7 @@ use Rattle.evc.specs.Planes.{edge, pastEdge}
 use Rattle.sad.specs.Edges.{behind}
 use Rattle.sad.proofs.Booleans.{ltb-same}
 
--- ---- for integers
+-- ---- laws of numbers and lists
 pub ltZ-nat : (x y : ℤ) → ltZ x y ≡ ltb (up x + dn y) (up y + dn x)
 ltZ-nat (pos a) (pos b) = ltb-same a b (a + 0) (b + 0) (λ h. omega arith) (λ h. omega arith)
 ltZ-nat (pos a) (negsuc b) = sym (le-ltb (a + suc b) 0 (omega arith))

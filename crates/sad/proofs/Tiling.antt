@@ -28,7 +28,7 @@ use Rattle.sad.proofs.Laws.{abs-dif-le}
 use Rattle.sad.proofs.Cells.{row-at}
 use Rattle.sad.proofs.Replies.{Alike, dif-alike, at-size, at-depth, at-area, at-second, at-rest}
 
--- ---- for evc
+-- ---- laws of the definitions
 -- tiles whose differences agree have one number
 pub number-ext : (n : ℕ) (d e : ℕ → ℕ → ℤ) → ((j i : ℕ) → j < n → i < n → d j i ≡ e j i) → tileNumber n d ≡ tileNumber n e
 unfolding tileNumber tileSum coefficient
