@@ -4,12 +4,13 @@ use mathlib.Core.List.{List}
 use Prim.Native.Nat.{ℕ, _+_, _-_, _*_, _≤_, _<_}
 use native.Mathlib.Nat.{le-trans, le-of-eq, mul-le-mul-right}
 use native.Mathlib.Omega.{arith}
+use lib.Bits.{bitOr}
 use lib.ListN.{length, getD, length-take, length-drop}
 use lib.Seq.{getD-take, getD-drop}
 use Rattle.integers.specs.Sum.{ofN+, sumN}
 use Rattle.integers.proofs.Sum.{sum-ext, sum-le}
 use Rattle.order.specs.Positions.{reach}
-use Rattle.sad.specs.Or.{ofOr}
+use Rattle.sad.specs.Or.{ofOr, orN}
 use Rattle.sad.specs.Small.{SmallRows, SmallBlocks, Ready}
 use Rattle.sad.specs.Totals.{Told, Compared, TwoRows, TwoBlocks, rowOf, cell}
 
@@ -85,3 +86,15 @@ small-rows w h a s t b s′ t′ k j n p q e f = record {
 -- a width that a literal names
 pub ready-at : (w k h : ℕ) (a : List ℕ) (s t : ℕ) (b : List ℕ) (s′ t′ n : ℕ) → w ≡ k → Ready w h a s t b s′ t′ n → Ready k h a s t b s′ t′ n
 ready-at w k h a s t b s′ t′ n e r = subst (λ (x : ℕ). Ready x h a s t b s′ t′ n) e r
+
+-- the OR of two rows, said of the blocks that they are rows of
+pub marked-rows :
+    (a : List ℕ) (s t : ℕ) (b : List ℕ) (s′ t′ j w : ℕ) (p q : List ℕ) → p ≡ rowOf a s t j w → q ≡ rowOf b s′ t′ j w →
+    orN w (λ i. bitOr (getD p i 0) (getD q i 0)) ≡ orN w (λ i. bitOr (cell 0 a s t j i) (cell 0 b s′ t′ j i))
+marked-rows a s t b s′ t′ j w p q e f =
+    sum-ext ofOr w (λ i. bitOr (getD p i 0) (getD q i 0)) (λ i. bitOr (cell 0 a s t j i) (cell 0 b s′ t′ j i))
+    (λ i n. ap₂ bitOr (ap (λ (l : List ℕ). getD l i 0) e ∙ row-at a s t j w 0 i n) (ap (λ (l : List ℕ). getD l i 0) f ∙ row-at b s′ t′ j w 0 i n))
+
+-- a width that a literal names
+pub marks-at : (w k h : ℕ) (g : ℕ → ℕ → ℕ) {m : ℕ} → w ≡ k → m ≡ orN h (λ j. orN k (g j)) → m ≡ orN h (λ j. orN w (g j))
+marks-at w k h g e p = p ∙ ap (λ (n : ℕ). orN h (λ j. orN n (g j))) (sym e)

@@ -44,6 +44,10 @@ RowsTold f w a b sum any = Told w (λ i. f (getD a i 0) (getD b i 0)) (λ i. bit
 abbrev pub BiRowsTold : ℕ → List ℤ → List ℕ → ℕ → ℕ → Type 0
 BiRowsTold w a b sum any = Told w (λ i. apartBi (getD a i (pos 0)) (getD b i 0)) (λ i. bitOr (lowMark (getD a i (pos 0))) (getD b i 0)) sum any
 
+-- the OR of all samples of two rows
+abbrev pub rowsMarks : ℕ → List ℕ → List ℕ → ℕ
+rowsMarks w a b = orN w (λ i. bitOr (getD a i 0) (getD b i 0))
+
 -- ---- blocks, whose rows stand a stride apart in their buffer, from a start on
 -- row j, of w values, and the value in row j, column i
 unfoldable pub rowOf : {A : Type 0} → List A → ℕ → ℕ → ℕ → ℕ → List A
@@ -71,3 +75,7 @@ BlocksTold f w h a s t b s′ t′ sum any =
 abbrev pub BiBlocksTold : ℕ → ℕ → List ℤ → List ℕ → ℕ → ℕ → ℕ → ℕ → Type 0
 BiBlocksTold w h a b s t sum any =
     Compared w h (λ j i. apartBi (cell (pos 0) a 0 w j i) (cell 0 b s t j i)) (λ j i. bitOr (lowMark (cell (pos 0) a 0 w j i)) (cell 0 b s t j i)) sum any
+
+-- the OR of all samples of two blocks
+abbrev pub blocksMarks : ℕ → ℕ → List ℕ → ℕ → ℕ → List ℕ → ℕ → ℕ → ℕ
+blocksMarks w h a s t b s′ t′ = orN h (λ j. orN w (λ i. bitOr (cell 0 a s t j i) (cell 0 b s′ t′ j i)))

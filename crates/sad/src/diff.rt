@@ -106,8 +106,8 @@ fn of_blocks(
     requires { ⌜ (depth ≤ 14) × (h * w ≤ length (now out)) ⌝ }
     ensures { λ r. ⌜ Differed w h (strided (now (a .entry)) «a_at» «a_stride» depth) (strided (now (b .entry)) «b_at» «b_stride» depth) (now (out .entry)) (answerNumber r) (now (out .exit)) ⌝ }
 {
-    let t = crate::blocks::sad_block(a, a_at, a_stride, b, b_at, b_stride, w, h);
-    if t.any >> depth != 0 {
+    let any = crate::blocks::any_block(a, a_at, a_stride, b, b_at, b_stride, w, h);
+    if any >> depth != 0 {
         return Answer::Refused(Refusal::Sample);
     }
     diff_block(a, a_at, a_stride, b, b_at, b_stride, w, h, out);

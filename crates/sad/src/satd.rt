@@ -62,8 +62,8 @@ fn of_blocks(
     requires { ⌜ (8 ≤ depth) × (depth ≤ 14) ⌝ }
     ensures { λ r. ⌜ distortionReading r ≡ satdLeft w h depth (strided (now (a .entry)) «a_at» «a_stride» depth) (strided (now (b .entry)) «b_at» «b_stride» depth) ⌝ }
 {
-    let t = crate::blocks::sad_block(a, a_at, a_stride, b, b_at, b_stride, w, h);
-    if t.any >> depth != 0 {
+    let any = crate::blocks::any_block(a, a_at, a_stride, b, b_at, b_stride, w, h);
+    if any >> depth != 0 {
         return Distortion::Refused(Refusal::Sample);
     }
     let sum = total(a, a_at, a_stride, b, b_at, b_stride, w, h);

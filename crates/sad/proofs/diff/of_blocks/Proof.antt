@@ -22,44 +22,44 @@ use Rattle.sad.proofs.diff.of_blocks.Tie as tie
 
 -- the number of SAMPLE, by the OR of all samples
 sampled :
-    (c : tie.After-sad-block) (t : Bool) →
+    (c : tie.After-any-block) (t : Bool) →
     let a = c .before .before .before .args in
-    leb (2 ^ a .depth) (c .sad-block .result .any) ≡ t →
+    leb (2 ^ a .depth) (c .any-block .result) ≡ t →
     first ((Sample when t) ∷ []) ≡ first (sampleTests (a .w) (a .h) (strided (a .a .now) (a .a-at) (a .a-stride) (a .depth)) (strided (a .b .now) (a .b-at) (a .b-stride) (a .depth)))
 sampled c t e =
     let a = c .before .before .before .args in
     ap (λ (u : Bool). first ((Sample when u) ∷ [])) (sym e)
     ∙ marked-first (a .w) (a .h) (a .depth) (strided (a .a .now) (a .a-at) (a .a-stride) (a .depth)) (strided (a .b .now) (a .b-at) (a .b-stride) (a .depth))
-    (cell 0 (a .a .now) (a .a-at) (a .a-stride)) (cell 0 (a .b .now) (a .b-at) (a .b-stride)) (λ j i. refl) (λ j i. refl) (c .sad-block .ensures .marks)
+    (cell 0 (a .a .now) (a .a-at) (a .a-stride)) (cell 0 (a .b .now) (a .b-at) (a .b-stride)) (λ j i. refl) (λ j i. refl) (c .any-block .ensures)
 
 -- a depth of at most 14 and no sample that reaches it: each sample is below 2^14
-small : (c : tie.Else1) → let a = c .before .before .before .before .before .args in SmallBlocks (a .w) (a .h) (a .a .now) (a .a-at) (a .a-stride) (a .b .now) (a .b-at) (a .b-stride)
+small : (c : tie.Else1) → let a = c .before .before .before .before .args in SmallBlocks (a .w) (a .h) (a .a .now) (a .a-at) (a .a-stride) (a .b .now) (a .b-at) (a .b-stride)
 small c =
-    let s = c .before .before .before .before .before in
+    let s = c .before .before .before .before in
     let a = s .args in
-    let t = c .before .before .sad-block in
+    let t = c .before .any-block in
     let p : 2 ^ a .depth ≤ 2 ^ 14 = pow-mono (s .pre .1 .0) in
-    let each = below-all (a .w) (a .h) (a .depth) (cell 0 (a .a .now) (a .a-at) (a .a-stride)) (cell 0 (a .b .now) (a .b-at) (a .b-stride)) (t .result .any) (t .ensures .marks) (div-none (t .result .any) (a .depth) (c .if1 .left)) in
+    let each = below-all (a .w) (a .h) (a .depth) (cell 0 (a .a .now) (a .a-at) (a .a-stride)) (cell 0 (a .b .now) (a .b-at) (a .b-stride)) (t .result) (t .ensures) (div-none (t .result) (a .depth) (c .if1 .left)) in
     record { first = λ j i m n. le-trans (each j i m n .0) p; second = λ j i m n. le-trans (each j i m n .1) p }
 
-sad-block-requires : tie.Need-sad-block-requires
-sad-block-requires c κs = search needs
+any-block-requires : tie.Need-any-block-requires
+any-block-requires c κs = search needs
 
 shr-if1 : tie.Need-shr-if1
 shr-if1 c = search needs
 
 returns : tie.Need-returns
 returns c =
-    let a = c .before .before .before .before .before .args in
-    let t = c .before .before .sad-block .result in
+    let a = c .before .before .before .before .args in
+    let t = c .before .any-block .result in
     record {
-      answer = sampled (c .before .before) true (le-leb (2 ^ a .depth) (t .any) (div-some (t .any) (a .depth) (c .if1 .taken)));
+      answer = sampled (c .before) true (le-leb (2 ^ a .depth) t (div-some t (a .depth) (c .if1 .taken)));
       buffer = refl;
     }
 
 diff-block-requires : tie.Need-diff-block-requires
 diff-block-requires c κs =
-    let s = c .before .before .before .before .before .before in
+    let s = c .before .before .before .before .before in
     record { blocks = s .pre .0; small = small (c .before); room = s .pre .1 .1 }
 
 same-length : tie.Need-same-length
@@ -68,14 +68,14 @@ same-length c = search needs
 returns-2 : tie.Need-returns-2
 returns-2 c =
     let e = c .before .before .before in
-    let a = e .before .before .before .before .before .args in
-    let t = e .before .before .sad-block .result in
+    let a = e .before .before .before .before .args in
+    let t = e .before .any-block .result in
     record {
-      answer = sampled (e .before .before) false (lt-leb (2 ^ a .depth) (t .any) (div-none (t .any) (a .depth) (e .if1 .left)));
+      answer = sampled (e .before) false (lt-leb (2 ^ a .depth) t (div-none t (a .depth) (e .if1 .left)));
       buffer = c .before .diff-block .ensures;
     }
 
 pub of-blocks-spec : {M : Type 1} → statement M
 of-blocks-spec =
     tie.close
-    (tie.spec sad-block-requires shr-if1 returns diff-block-requires same-length returns-2)
+    (tie.spec any-block-requires shr-if1 returns diff-block-requires same-length returns-2)
