@@ -1,5 +1,5 @@
 // The Rust at one depth: the texts of itdq.rs, enc/sad.rs, region.rs and tbl.rs of a checkout of revcx/revc, taken in unchanged by `include!`,
-// over thin stand-ins for the few things that they lean on. ../run builds this file once for each depth 8..14; it hands over ORACLE_DEPTH, REVC
+// over thin stand-ins for the few things that they lean on. ../revc.sh builds this file once for each depth 8..14; it hands over ORACLE_DEPTH, REVC
 // and GEN (a folder with the lines cut out of files that don't build here as a whole) in the environment of rustc.
 #![allow(warnings)]
 
