@@ -8,11 +8,12 @@ TICKS = [0.1, 0.15, 0.2, 0.3, 0.5, 0.7, 1, 1.5, 2, 3, 5, 7, 10]
 
 
 def panels(parts):
-    """parts: (title, sizes, {name: ratio or None for each size}, a bar to draw or None). The scale is logarithmic: half and double are as far from 1."""
-    all_ratios = [1.0, 1.2] + [r for _, _, rows, _ in parts for row in rows.values() for r in row if r is not None]
+    """parts: (title, sizes, {name: ratio or None for each size}, the same of an earlier run, a bar to draw or None). The scale is logarithmic: half and
+    double are as far from 1. The earlier run is dotted."""
+    all_ratios = [1.0, 1.2] + [r for _, _, rows, old, _ in parts for some in (rows, old) for row in some.values() for r in row if r is not None]
     low = max([t for t in TICKS if t <= min(all_ratios)] or TICKS[:1])
     high = min([t for t in TICKS if t >= max(all_ratios)] or TICKS[-1:])
-    most = max(len(rows) for _, _, rows, _ in parts)
+    most = max(len(rows) for _, _, rows, _, _ in parts)
     height = HEIGHT + 16 * ((most + 1) // 2) + 10
     out = [
         f'<svg xmlns="http://www.w3.org/2000/svg" width="{WIDTH * len(parts)}" height="{height}" font-family="sans-serif" font-size="11">',
@@ -25,7 +26,7 @@ def panels(parts):
     return "\n".join(out + ["</svg>"]) + "\n"
 
 
-def panel(title, sizes, rows, bar, low, high):
+def panel(title, sizes, rows, old, bar, low, high):
     right, bottom = WIDTH - RIGHT, HEIGHT - BOTTOM
     x = lambda i: LEFT + 8 + i * (right - LEFT - 16) / (len(sizes) - 1)
     y = lambda r: bottom - math.log(min(max(r, low), high) / low) / math.log(high / low) * (bottom - TOP)
@@ -41,6 +42,9 @@ def panel(title, sizes, rows, bar, low, high):
     out.append(f'<text x="{(LEFT + right) / 2:.1f}" y="{bottom + 30}" text-anchor="middle" fill="#555">side of the block</text>')
     for k, (name, row) in enumerate(rows.items()):
         colour = COLOURS[k % len(COLOURS)]
+        earlier = [f"{x(i):.1f},{y(r):.1f}" for i, r in enumerate(old.get(name, [])) if r is not None]
+        if earlier:
+            out.append(f'<polyline fill="none" stroke="{colour}" stroke-width="1.2" stroke-dasharray="2 3" points="{" ".join(earlier)}"/>')
         points = [(x(i), y(r)) for i, r in enumerate(row) if r is not None]
         if points:
             out.append(f'<polyline fill="none" stroke="{colour}" stroke-width="1.8" points="{" ".join(f"{a:.1f},{b:.1f}" for a, b in points)}"/>')

@@ -20,21 +20,40 @@ PLACES = ["corner", "left", "above", "outside"]
 # the rows of the tables by size: name, kernel, place
 ROWS = [(k, k, "") for k in TRANSFORM + DISTORTION] + [(f"{k}, corner", k, "corner") for k in SIGNED]
 COUNTED = 10  # the depth at which instructions are counted
+# what before.tsv is
+BEFORE = [
+    "Before: every stage line by line in 64 bits, one halving step for every size. After: the shapes of docs/DECISIONS.md, \"Shapes for speed\", under the",
+    "same promises. Both archives were measured on one machine, one run after the other.",
+]
 
 
-def bar(kernel, place, w, h):
-    """The ratio that a case must not exceed, or None."""
-    if kernel in ("itxb0", "itxb1"):
-        return 1.1 if w >= 8 else None
-    if kernel == "job":
-        return 1.1 if w >= 8 and h >= 8 else None
-    if kernel == "satd":
-        return 0.75 if w in (8, 64) else None
-    if kernel in DISTORTION:
-        if place:
-            return 0.6 if w == 64 else None
-        return {8: 0.6, 16: 0.5, 64: 0.5}.get(w)
-    return None
+# the largest ratio allowed of square blocks, by side; on x86-64 of instructions, elsewhere of times
+BARS = {
+    "itxb0": {64: 0.45, 32: 0.45, 16: 0.45, 8: 0.45, 4: 0.85, 2: 0.85},
+    "itxb1": {64: 0.9, 32: 0.85, 16: 0.9, 8: 0.65, 4: 0.8, 2: 0.9},
+    "job": {64: 0.7, 32: 0.7, 16: 0.75, 8: 0.7, 4: 0.9, 2: 1.0},
+    "dquant": {64: 1.0, 32: 1.0, 16: 1.0, 8: 1.0, 4: 1.0, 2: 1.0},
+    "satd": {64: 0.7, 32: 0.7, 16: 0.7, 8: 0.7},
+}
+SAMPLES = {64: 0.4, 32: 0.4, 16: 0.4, 8: 0.5, 4: 0.65}  # SAD, SSD, DIFF
+FEW = 1.1  # oblong jobs and stages with fewer than 4 lines; 1.0 with more
+CLAMPED = 0.6  # positions below 0, 64x64
+TIME = 1.1  # stages and jobs from 8 to 64, in time on every machine
+
+
+def bars(kernel, place, w, h):
+    """(what is compared, the ratio that the case must not exceed), for each bar that it has."""
+    found = []
+    if place == "one line" or (kernel == "job" and w != h):
+        found.append(("steps", 1.0 if min(w, h) >= 4 else FEW))
+    elif place:
+        found += [("steps", CLAMPED)] if w == 64 else []
+    else:
+        limit = BARS.get(kernel, SAMPLES if kernel in DISTORTION else {}).get(w)
+        found += [("steps", limit)] if limit is not None else []
+    if kernel in ("itxb0", "itxb1", "job") and min(w, h) >= 8:
+        found.append(("ns", TIME))
+    return found
 
 
 def rounded(x):
@@ -78,15 +97,14 @@ class Run:
         return off[worst], sum(o > 0.05 for o in off.values()), f"{case_name(*worst[:4])}, depth {worst[4]}"
 
     def bars(self):
-        """(bar, kernel, place, w, h, worst ratio over the depths) of each case that has one; ratio None: not measured."""
-        found = {}
+        """(bar, kernel, place, w, h, largest ratio, what) of each bar; ratio None: not measured. Instructions don't depend on the depth, times do."""
+        counted = any(self.ratio("steps", *key) is not None for key in self.cases)
         keys = list(self.cases) + [key for key, _ in self.wrong]
-        for kernel, place, w, h, d in keys:
-            limit = bar(kernel, place, w, h)
-            if limit is not None:
-                found.setdefault((kernel, place, w, h), [limit]).append(self.ratio("ns", kernel, place, w, h, d))
-        for (kernel, place, w, h), (limit, *got) in found.items():
-            yield limit, kernel, place, w, h, None if None in got else max(got)
+        for case in dict.fromkeys(key[:4] for key in keys):
+            for what, limit in bars(*case):
+                what = what if counted else "ns"
+                got = [self.ratio(what, *key) for key in keys if key[:4] == case and (what == "ns" or key[4] == COUNTED)]
+                yield limit, *case, None if None in got else max(got), what
 
 
 def figure(x):
@@ -116,32 +134,55 @@ def is_missed(b):
     return b[5] is not None and rounded(b[5]) > b[0]
 
 
+WORDS = {"ns": "time", "steps": "instructions"}
+
+
 def bars_part(run):
     """A line for each group of bars, and each bar that is missed or of which nothing was measured."""
     groups = {}
     for b in run.bars():
-        kind = "stages and jobs" if b[1] in TRANSFORM else "SATD" if b[1] == "satd" else "positions below 0" if b[2] else "SAD, SSD, DIFF"
-        side = "8 to 64" if kind == "stages and jobs" else f"{b[3]}x{b[4]}"
-        groups.setdefault((kind, side, b[0]), []).append(b)
+        kind = "SAD, SSD, DIFF" if b[1] in DISTORTION and b[1] != "satd" else b[1]
+        kind = "positions below 0" if b[2] in PLACES else "oblong jobs, one line" if b[2] or b[3] != b[4] else kind
+        kind, side = ("stages and jobs", "8 to 64") if (b[6], b[0]) == ("ns", TIME) else (kind, "" if kind.startswith("oblong") else f"{b[3]}")
+        groups.setdefault((b[6], kind, b[0], side), []).append(b)
     rows, bad = [], []
-    for (kind, side, limit), members in sorted(groups.items()):
+    for (what, kind, limit, side), members in sorted(groups.items(), key=lambda g: (g[0][0], g[0][1], int(g[0][3] or 0) if g[0][3].isdigit() else 0)):
         measured = [b for b in members if b[5] is not None]
         missed = [b for b in measured if is_missed(b)]
         worst = max(measured, key=lambda b: b[5]) if measured else None
         said = [f"**MISSED** by {len(missed)} of {len(members)}"] if missed else []
         said += [f"{len(members) - len(measured)} of {len(members)} not measured"] if len(measured) < len(members) else []
         told = "-" if worst is None else f"{figure(worst[5])} ({case_name(*worst[1:5])})"
-        rows.append([kind, side, f"{limit}", told, ", ".join(said) or "met"])
+        rows.append([WORDS[what], kind, side, f"{limit}", told, ", ".join(said) or "met"])
         bad += [b for b in members if b[5] is None or is_missed(b)]
-    lines = table(["kernels", "size", "bar", "largest ratio", ""], rows)
+    lines = table(["of", "kernels", "side", "bar", "largest ratio", ""], rows)
     if bad:
         lines += [""] + [f"- **{told_bar(b)}**" for b in bad]
     return lines, bad
 
 
 def told_bar(b):
-    name = f"{case_name(*b[1:5])}, bar {b[0]}"
+    name = f"{case_name(*b[1:5])}, {WORDS[b[6]]}, bar {b[0]}"
     return f"MISSED: {name}: {figure(b[5])}" if b[5] is not None else f"NOT MEASURED: {name}"
+
+
+def change(run, before, what, *key):
+    """Before and after, where both were measured."""
+    old, new = before.ratio(what, *key), run.ratio(what, *key)
+    return "-" if old is None or new is None else f"{figure(old)} {figure(new)}"
+
+
+def before_part(run, before):
+    """How the ratios moved since the run that before.tsv keeps."""
+    lines = []
+    for what in "steps", "ns":
+        rows = [[name] + [change(run, before, what, k, p, s, s, COUNTED) for s in SIZES] for name, k, p in ROWS]
+        lines += [f"{WORDS[what].capitalize()}, ours / Rust at depth {COUNTED}, before and after:", ""] + table([""] + [str(s) for s in SIZES], rows) + [""]
+        head = [f"job {w}x{h}" for w, h in OBLONG] + ["itxb0, one line", "itxb1, one line"]
+        cells = [change(run, before, what, "job", "", w, h, COUNTED) for w, h in OBLONG]
+        cells += [change(run, before, what, k, "one line", 64, 1, COUNTED) for k in ("itxb0", "itxb1")]
+        lines += table(head, [cells]) + [""]
+    return lines
 
 
 def wrong_part(run):
@@ -152,14 +193,15 @@ def wrong_part(run):
     return [f"- {kernel}, {said}: {len(cases)} cases ({', '.join(cases[:6])}{', ..' if len(cases) > 6 else ''})" for (kernel, said), cases in groups.items()]
 
 
-def tables(run):
-    """The body of the report: lines, and the bars that are not met."""
+def tables(run, before):
+    """The body of the report: lines, and the bars that are not met. before: an earlier run, or None."""
     out = []
     if run.wrong:
         out += ["## Not measured", ""]
         out += wrong_part(run) + [""]
     lines, bad = bars_part(run)
-    out += ["## Bars", "", "Times, the largest ratio of the three depths.", ""] + lines + [""]
+    out += ["## Bars", "", "Instructions at depth 10; of times the largest ratio of the three depths.", ""] + lines + [""]
+    out += ["## Before and after", ""] + BEFORE + [""] + before_part(run, before) if before else []
 
     out += ["## Time, ours / Rust, at depths 8, 10 and 14", ""]
     out += table([""] + [str(s) for s in SIZES], [[name] + [run.ratios(k, p, s, s) for s in SIZES] for name, k, p in ROWS]) + [""]
@@ -213,16 +255,23 @@ def chance(run):
     return table(["calls of", "cases", "median off 1", "largest off 1"], rows)
 
 
+def curves(run, kernels, place):
+    """Times by size, at depth 10, for the plot."""
+    return {k: [run.ratio("ns", k, place, s, s, 10) for s in SIZES] for k in kernels} if run else {}
+
+
 def main():
     results, settings, *what = sys.argv[1:]
     run = Run(results, settings)
     if what == ["self"]:
         print("\n".join(chance(run) + [""] + setting(run)))
         return 0
-    body, bad = tables(run)
+    here = os.path.dirname(os.path.abspath(__file__))
+    kept = os.path.join(here, "before.tsv")
+    before = Run(kept, settings) if os.path.exists(kept) else None
+    body, bad = tables(run, before)
     print("\n".join(body + setting(run)))
     if what == ["docs"]:
-        here = os.path.dirname(os.path.abspath(__file__))
         docs = os.path.join(os.path.dirname(here), "docs")
         own = os.path.join(os.path.dirname(results), "self-")
         with open(os.path.join(here, "words.md")) as f:
@@ -236,9 +285,9 @@ def main():
             f.write(
                 plot.panels(
                     [
-                        ("Transform", SIZES, {k: [run.ratio("ns", k, "", s, s, 10) for s in SIZES] for k in TRANSFORM}, 1.1),
-                        ("SAD, SSD, DIFF, SATD", SIZES, {k: [run.ratio("ns", k, "", s, s, 10) for s in SIZES] for k in DISTORTION}, None),
-                        ("Positions below 0", SIZES, {k: [run.ratio("ns", k, "corner", s, s, 10) for s in SIZES] for k in SIGNED}, None),
+                        ("Transform", SIZES, curves(run, TRANSFORM, ""), curves(before, TRANSFORM, ""), 1.1),
+                        ("SAD, SSD, DIFF, SATD", SIZES, curves(run, DISTORTION, ""), curves(before, DISTORTION, ""), None),
+                        ("Positions below 0", SIZES, curves(run, SIGNED, "corner"), curves(before, SIGNED, "corner"), None),
                     ]
                 )
             )
