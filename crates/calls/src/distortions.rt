@@ -5,6 +5,10 @@ use crate::answer;
 use crate::buffer;
 use crate::cursor::Cursor;
 use crate::cursor::is_good;
+use crate::groups::Motion;
+use crate::groups::Pair;
+use crate::groups::Plane;
+use crate::groups::Sides;
 use crate::groups::block_at;
 use crate::groups::motion_at;
 use crate::groups::pair_at;
@@ -13,6 +17,7 @@ use crate::groups::sides_at;
 use crate::number;
 use crate::out::Out;
 use crate::said::Said;
+use evc::Distortion;
 
 // The lengths of two blocks, and where reading goes on.
 struct Blocks {
@@ -172,6 +177,35 @@ pub(crate) fn ssd_16i(
     Said { used, end }
 }
 
+// The call by itself: with all of a line's numbers in one function, its check is many times as long.
+fn sad_16b_of(
+    org: &[u16],
+    p: Plane,
+    at: Pair,
+    reference: &[u16],
+    q: Plane,
+    mv: Motion,
+    side: Sides,
+) -> Distortion {
+    sad::evce_sad_16b(
+        org,
+        p.width,
+        p.height,
+        p.stride,
+        at.x,
+        at.y,
+        reference,
+        q.width,
+        q.height,
+        q.stride,
+        mv.x,
+        mv.y,
+        side.w,
+        side.h,
+        side.depth,
+    )
+}
+
 pub(crate) fn sad_16b(
     line: &[u8],
     c: Cursor,
@@ -192,23 +226,7 @@ pub(crate) fn sad_16b(
     if !is_good(end) {
         return Said { used, end };
     }
-    let a = sad::evce_sad_16b(
-        &org[0..i],
-        p.width,
-        p.height,
-        p.stride,
-        at.x,
-        at.y,
-        &reference[0..j],
-        q.width,
-        q.height,
-        q.stride,
-        mv.x,
-        mv.y,
-        side.w,
-        side.h,
-        side.depth,
-    );
+    let a = sad_16b_of(&org[0..i], p, at, &reference[0..j], q, mv, side);
     let used = answer::of_distortion(out, used, a);
     Said { used, end }
 }
