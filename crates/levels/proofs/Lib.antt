@@ -1,0 +1,1 @@
+-- The laws of the sums of 16 lines.
