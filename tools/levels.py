@@ -9,7 +9,7 @@ import sys
 from pathlib import Path
 
 CRATE = Path(__file__).resolve().parent.parent / "crates" / "levels"
-SIZES = (8,)
+SIZES = (8, 16, 32)
 NAMES = "abcd"
 
 

@@ -6,6 +6,8 @@ ghost use Rattle.levels.specs.Lanes.{laneSum};
 ghost use Rattle.levels.specs.Steps.{Narrow};
 use super::base::base;
 use super::level8::level8;
+use super::level16::level16;
+use super::level32::level32;
 
 // Each number of the block has 16 bits: what reading it tells. Nothing is kept of what is read, and a compiler removes the loop.
 fn narrow(s: &[i16; 1024])
@@ -25,3 +27,21 @@ pub fn sums16(s: &[i16; 1024], e: &mut [i32; 256])
     level8(s, e);
 }
 
+pub fn sums32(s: &[i16; 1024], e: &mut [i32; 512])
+    ensures { λ _. ⌜ now (e .exit) ≡ tab 512 (laneSum 32 (now (s .entry))) ⌝ }
+{
+    narrow(s);
+    base(s, e);
+    level8(s, e);
+    level16(s, e);
+}
+
+pub fn sums64(s: &[i16; 1024], e: &mut [i32; 1024])
+    ensures { λ _. ⌜ now (e .exit) ≡ tab 1024 (laneSum 64 (now (s .entry))) ⌝ }
+{
+    narrow(s);
+    base(s, e);
+    level8(s, e);
+    level16(s, e);
+    level32(s, e);
+}

@@ -1,3 +1,4 @@
+-- `levels::sums::sums16` meets its contract: level after level. Assumes nothing.
 use borrow.Author.Needs.{needs}
 use mathlib.Core.Path.{_≡_, refl}
 use lib.Dec.{lit<, lit≤}
