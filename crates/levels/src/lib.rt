@@ -1,4 +1,9 @@
 // The sums of 16 lines side by side, by halving, for the sizes 16, 32 and 64.
+mod base;
+mod lanes;
+mod level8;
+mod level16;
+mod level32;
 mod sums;
 
 pub use sums::sums16;
