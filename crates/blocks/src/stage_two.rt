@@ -24,14 +24,13 @@ fn two32(src: &[i32], c: &[i64], dst: &mut [i16], l: usize, j0: usize, shift: u8
     requires { ⌜ Offsets (now c) 32 shift × Room (now src) (now dst) 32 l j0 ⌝ }
     ensures { λ _. ⌜ Blocked (stageTwoAt (tm 32) 32 l shift (now (src .entry))) (now (dst .entry)) (now (dst .exit)) 32 j0 ⌝ }
 {
-    let mut hi = [0i16; 1024];
-    highs(src, &mut hi, 32, 32, l, j0);
+    let mut s = [0i16; 1024];
+    highs(src, &mut s, 32, 32, l, j0);
     let mut h = [0i32; 512];
-    levels::sums32(&hi, &mut h);
-    let mut lo = [0i16; 1024];
-    lows(src, &mut lo, 32, 32, l, j0);
+    levels::sums32(&s, &mut h);
+    lows(src, &mut s, 32, 32, l, j0);
     let mut a = [0i32; 512];
-    levels::sums32(&lo, &mut a);
+    levels::sums32(&s, &mut a);
     tail(&h, &a, c, dst, 32, j0, shift);
 }
 
@@ -54,14 +53,13 @@ fn two64(src: &[i32], c: &[i64], dst: &mut [i16], l: usize, j0: usize, shift: u8
     requires { ⌜ Offsets (now c) 64 shift × Room (now src) (now dst) 64 l j0 ⌝ }
     ensures { λ _. ⌜ Blocked (stageTwoAt (tm 64) 64 l shift (now (src .entry))) (now (dst .entry)) (now (dst .exit)) 64 j0 ⌝ }
 {
-    let mut hi = [0i16; 1024];
-    highs(src, &mut hi, 64, 16, l, j0);
+    let mut s = [0i16; 1024];
+    highs(src, &mut s, 64, 16, l, j0);
     let mut h = [0i32; 1024];
-    levels::sums64(&hi, &mut h);
-    let mut lo = [0i16; 1024];
-    lows(src, &mut lo, 64, 16, l, j0);
+    levels::sums64(&s, &mut h);
+    lows(src, &mut s, 64, 16, l, j0);
     let mut a = [0i32; 1024];
-    levels::sums64(&lo, &mut a);
+    levels::sums64(&s, &mut a);
     tail(&h, &a, c, dst, 64, j0, shift);
 }
 

@@ -27,10 +27,10 @@ sums64-requires : tie.Need-sums64-requires
 sums64-requires c κs = search needs
 
 slice-aggregate-lows : tie.Need-slice-aggregate-lows
-slice-aggregate-lows c = search needs
+slice-aggregate-lows c = sym (c .before .before .before .before .before .highs .ensures .long)
 
 lows-requires : tie.Need-lows-requires
-lows-requires c κs = let s = c .before .before .before .before .before .before .before in record { long = refl; rows = refl; apart = omega arith; among = s .pre .1 .among; src-room = s .pre .1 .src-room }
+lows-requires c κs = let s = c .before .before .before .before .before .before .before in record { long = c .before .before .before .before .before .highs .ensures .long; rows = refl; apart = omega arith; among = s .pre .1 .among; src-room = s .pre .1 .src-room }
 
 sums64-requires-2 : tie.Need-sums64-requires-2
 sums64-requires-2 c κs = search needs
