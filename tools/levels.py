@@ -9,7 +9,7 @@ import sys
 from pathlib import Path
 
 CRATE = Path(__file__).resolve().parent.parent / "crates" / "levels"
-SIZES = (8, 16, 32)
+SIZES = (8,)
 NAMES = "abcd"
 
 
@@ -66,9 +66,185 @@ def code(m):
     return "\n".join(out)
 
 
+def proof(module, name, does, uses, body, needs):
+    """A proof file: what the function does, its imports, definitions and needs (name, its argument's rest, answer)."""
+    here = f"Rattle.levels.proofs.{module}.{name}"
+    out = [f"-- `levels::{module}::{name}` meets its contract: {does} Written by tools/levels.py.", "-- Assumes nothing.", *uses]
+    out += [f"use {here}.Statement.{{statement}}", f"use {here}.Tie as tie", "", *body]
+    for need, rest, answer in needs:
+        out += [f"{need} : tie.Need-{need}", f"{need} c{rest} = {answer}", ""]
+    spec = name.replace("_", "-") + "-spec"
+    out += [f"pub {spec} : {{M : Type 1}} → statement M", f"{spec} =", "    tie.close", "    (tie.spec"]
+    out += [f"    {need}" for need, _, _ in needs]
+    out[-1] += ")"
+    return "\n".join(out) + "\n"
+
+
+def back(k):
+    return " .before" * k
+
+
+def nth(name, k):
+    return name if k == 1 else f"{name}-{k}"
+
+
+def start(last):
+    """The needs of `at` and `step`."""
+    room = f"omega (arith, octaves _ _ _ _ (c .pre), {last} _ _ _ _ (c .pre))"
+    return [(need, "", room) for need in ("mul-at", "add-at", "mul-at-2", "mul-at-3", "add-at-2", "mul-step")]
+
+
+def pick():
+    uses = [
+        "use borrow.Author.Needs.{sfits-of}",
+        "use mathlib.Core.Path.{_≡_, sym, _∙_, subst}",
+        "use mathlib.Core.List.{List, [], _∷_}",
+        "use Prim.Native.Nat.{ℕ, _+_, _*_}",
+        "use native.Mathlib.Omega.{arith}",
+        "use lib.ListN.{getD}",
+        "use lib.IntN.{ℤ, pos}",
+        "use mir.Syntax.{w16, w32}",
+        "use Rattle.integers.proofs.Expr.{Ex, var, loc, Known, arg, env, fit, reads-all}",
+        "use Rattle.levels.specs.Steps.{Picked}",
+        "use Rattle.levels.proofs.Steps.{octaves, last-input, eighth-input, eight-at}",
+    ]
+    body = [
+        "-- input i",
+        "abbrev input : tie.Start → ℕ → ℤ",
+        "input s i = getD (s .args .s .now) ((16 * s .args .c + 1) * s .args .q * 16 + s .args .j + i * (s .args .q * 32)) (pos 0)",
+        "",
+        "abbrev known : tie.After-x7 → ℕ → Known",
+        "known c =",
+        f"    let s = c{back(8)} in",
+        "    env (",
+    ]
+    for i in range(8):
+        body.append(f"    {'∷ ' if i else ''}arg w16 (input s {i}) (sfits-of (c{back(7 - i)} .x{i} .given))")
+    body += [
+        "    ∷ []",
+        "    )",
+        "",
+        "abbrev results : List Ex",
+        "results = " + " ∷ ".join(f"loc w32 (var {i})" for i in range(8)) + " ∷ []",
+        "",
+    ]
+    needs = start("last-input")
+    for i in range(8):
+        s = f"c{back(i)}"
+        room = f"omega (arith, last-input _ _ _ _ ({s} .pre))"
+        needs += [(need, "", room) for need in (f"mul-x{i}", f"add-x{i}", f"mul-x{i}-2", f"element-copy-out-x{i}")]
+        needs.append((f"cast-x{i}", "", f"fit (env (arg w16 (input (c{back(1)}{back(i)}) {i}) (sfits-of (c .x{i} .given)) ∷ [])) w32 (var 0) tt"))
+    needs.append(
+        (
+            "returns",
+            "",
+            f"let s = c{back(8)} in subst (λ (l : List ℤ). Picked l (s .args .s .now) (s .args .q) (s .args .c) (s .args .j)) (sym (reads-all (known c) results tt)) (record {{ at = λ i h. eight-at (input s) i h ∙ eighth-input _ _ _ _ (s .pre) i h (s .args .s .now) }})",
+        )
+    )
+    return proof("lanes", "pick", "eight inputs, read one after the other.", uses, body, needs)
+
+
+def dot8():
+    uses = [
+        "use mathlib.Core.Path.{_≡_, _∙_}",
+        "use mathlib.Core.List.{[], _∷_}",
+        "use Prim.Native.Nat.{ℕ, _+_, _*_}",
+        "use native.Mathlib.Omega.{arith}",
+        "use lib.Dec.{T, ltb, lit<}",
+        "use lib.ListN.{getD}",
+        "use lib.IntN.{pos}",
+        "use mir.Syntax.{w8, w32}",
+        "use Rattle.integers.proofs.Expr.{Ex, var, add, mul, loc, bare, Known, small, env, fit, reads}",
+        "use Rattle.levels.proofs.Steps.{octaves, last-number, so-far-small, number-small, picked-small, eight-more}",
+    ]
+    body = [
+        "-- number i of the table and input i",
+        "module _ (s : tie.Start) (i : ℕ) (h : T (ltb i 8)) where",
+        "  abbrev number : Known",
+        "  number =",
+        "      small w8 (getD (s .args .t .now) ((16 * s .args .c + 1) * s .args .q * 64 + s .args .n + i * (s .args .q * 128)) (pos 0)) 90 (number-small (s .pre) i h)",
+        "      tt",
+        "",
+        "  abbrev input : Known",
+        "  input = small w32 (getD (s .args .x .now) i (pos 0)) 32768 (picked-small (s .pre) i h) tt",
+        "",
+        "abbrev known : tie.Start → ℕ → Known",
+        "known s =",
+        "    env (",
+        "    small w32 (s .args .z) 94371840 (so-far-small (s .pre)) tt",
+    ]
+    body += [f"    ∷ number s {i} tt ∷ input s {i} tt" for i in range(8)]
+    body += ["    ∷ []", "    )", "", "-- the product of both, and the sum with so many of them", "abbrev product : ℕ → Ex", "product i = loc w32 (mul (loc w32 (var (i + i + 1))) (var (i + i + 2)))", ""]
+    body += ["abbrev sum0 : Ex", "sum0 = var 0", ""]
+    for i in range(8):
+        body += [f"abbrev sum{i + 1} : Ex", f"sum{i + 1} = loc w32 (add sum{i} (product {i}))", ""]
+    needs = start("last-number")
+    needs = [(a, b, c.replace("(c .pre)", "(c .pre .inside)")) for a, b, c in needs]
+    for i in range(8):
+        s = f"c{back(2 * i)}"
+        room = f"omega (arith, last-number _ _ _ _ ({s} .pre .inside))"
+        needs += [(nth(need, 2 * i + 1), "", room) for need in ("mul-result", "add-result", "element-copy-out-result")]
+        needs.append((nth("cast-result", i + 1), "", f"fit (known (c{back(2 * i + 1)})) w32 (var {2 * i + 1}) tt"))
+        needs.append((nth("element-copy-out-result", 2 * i + 2), "", "lit< tt"))
+        needs.append((nth("mul-result", 2 * i + 2), "", f"fit (known (c{back(2 * i + 2)})) w32 (bare (product {i})) tt"))
+        needs.append((nth("add-result", 2 * i + 2), "", f"fit (known (c{back(2 * i + 2)})) w32 (bare sum{i + 1}) tt"))
+    needs.append(("returns", "", f"let s = c{back(16)} in reads (known s) sum8 tt ∙ eight-more (s .pre)"))
+    return proof("lanes", "dot8", "eight products, added one after the other.", uses, body, needs)
+
+
+def called(name, k):
+    """What the k-th call of a function is named in a proof."""
+    return name if k == 1 else f"{name}{k}"
+
+
+def lane(m, g):
+    """Eight places of a lane. The things that the code binds are counted from the start: the picks; then, of each place, the loan of e, the
+    loans of the picked inputs, the dot products, the store and the loan's end."""
+    q, parts = 32 // m, m // 8
+    each = 2 * parts + 3
+    name = f"lane{m}_{g}"
+    uses = [
+        "use mathlib.Core.Path.{_∙_}",
+        "use lib.Dec.{lit<, lit≤}",
+        "use mir.Syntax.{w32}",
+        "use Rattle.integers.proofs.Bits.{back}",
+        "use Rattle.levels.proofs.AsLine.{kept-then}",
+        "use Rattle.levels.proofs.Steps.{half-none}",
+    ]
+    inside = lambda s, column: f"record {{ some = lit< tt; rows = lit≤ tt; column = {column}; among = {s} .pre .1 .among }}"
+    stored = lambda i: parts + each * i + 2 + 2 * parts
+    read = lambda thing: f"back w32 _ (c .{thing} .ok) ∙ c .{thing} .ensures"
+    needs = []
+    for c in range(parts):
+        needs.append((nth("pick-requires", c + 1), " κs", inside(f"c{back(c)}", "lit< tt")))
+    for i in range(8):
+        for r in range(parts):
+            now = parts + each * i + 1 + parts + r
+            k = parts * i + r + 1
+            s = f"c{back(now)}"
+            so_far = read(called("dot8", k - 1)) if r else "half-none _ _ _ _"
+            answer = f"record {{ table = {s} .pre .0; narrow = {s} .pre .1 .level .narrow; inside = {inside(s, 'lit< tt')}; picked = c{back(now - r - 1)} .{called('pick', r + 1)} .ensures; so-far = {so_far} }}"
+            needs.append((nth("dot8-requires", k), " κs", answer))
+        now = stored(i) - 1
+        before = f"c{back(now - stored(i - 1))} .{called('put', i)} .ensures .lane" if i else f"c{back(now)} .pre .1"
+        needs.append((nth("put-requires", i + 1), " κs", f"record {{ lane = {before}; place = lit< tt; odd = {read(called('dot8', parts * (i + 1)))} }}"))
+    end = parts + each * 8
+    put = lambda i: f"c{back(end - stored(i))} .{called('put', i + 1)} .ensures"
+    kept = f"{put(7)} .kept"
+    for i in reversed(range(7)):
+        kept = f"kept-then ({put(i)} .kept) ({kept})"
+    needs.append(("same-length", "", f"{kept} .long"))
+    needs.append(("returns", "", f"record {{ lane = {put(7)} .lane; kept = {kept} }}"))
+    return proof(f"level{m}", name, f"places {g} to {g + 7}, one after the other.", uses, [], needs)
+
+
 def files():
+    yield CRATE / "proofs" / "lanes" / "pick" / "Proof.antt", pick()
+    yield CRATE / "proofs" / "lanes" / "dot8" / "Proof.antt", dot8()
     for m in SIZES:
         yield CRATE / "src" / f"level{m}.rt", code(m)
+        for g in range(0, m, 8):
+            yield CRATE / "proofs" / f"level{m}" / f"lane{m}_{g}" / "Proof.antt", lane(m, g)
 
 
 def main():

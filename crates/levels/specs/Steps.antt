@@ -29,6 +29,7 @@ pub record Narrow (s : List ℤ) : Type 0 where
 
 -- the first k odd multiples of q are rows of the table, n a column of it and j a lane of the block
 pub record Within64 (q k n j : ℕ) : Type 0 where
+  pub some : 0 < q
   pub rows : (k + k) * q ≤ 64
   pub column : n < 64
   pub among : j < 16
@@ -56,7 +57,7 @@ abbrev pub Lane : List ℤ → List ℤ → ℕ → ℕ → ℕ → Type 0
 Lane s e m n j = Part (laneList e j) T (32 / m) m n (laneList s j)
 
 -- size 2m is a level of the table, and e has room for it
-pub record Level (s e : List ℤ) (m : ℕ) : Type 0 where
+pub record Halving (s e : List ℤ) (m : ℕ) : Type 0 where
   pub narrow : Narrow s
   pub whole : (m + m) * (32 / m) ≡ 64
   pub size : 2 ≤ m
@@ -64,7 +65,7 @@ pub record Level (s e : List ℤ) (m : ℕ) : Type 0 where
 
 -- lane j of it
 pub record OfLane (s e : List ℤ) (m n j : ℕ) : Type 0 where
-  pub level : Level s e m
+  pub level : Halving s e m
   pub among : j < 16
   pub part : Lane s e m n j
 
@@ -86,7 +87,7 @@ pub record Moved (e₀ s e : List ℤ) (m n j : ℕ) : Type 0 where
 
 -- every lane has n places done
 pub record All (s e : List ℤ) (m n : ℕ) : Type 0 where
-  pub level : Level s e m
+  pub level : Halving s e m
   pub part : (j : ℕ) → j < 16 → Lane s e m n j
 
 -- every lane holds size m, every (64/m)th row and input

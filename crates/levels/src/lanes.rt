@@ -13,16 +13,15 @@ pub(crate) fn pick(s: &[i16; 1024], q: usize, c: usize, j: usize) -> [i32; 8]
 {
     let at = (16 * c + 1) * q * 16 + j;
     let step = q * 32;
-    [
-        s[at] as i32,
-        s[at + step] as i32,
-        s[at + 2 * step] as i32,
-        s[at + 3 * step] as i32,
-        s[at + 4 * step] as i32,
-        s[at + 5 * step] as i32,
-        s[at + 6 * step] as i32,
-        s[at + 7 * step] as i32,
-    ]
+    let x0 = s[at + 0 * step] as i32;
+    let x1 = s[at + 1 * step] as i32;
+    let x2 = s[at + 2 * step] as i32;
+    let x3 = s[at + 3 * step] as i32;
+    let x4 = s[at + 4 * step] as i32;
+    let x5 = s[at + 5 * step] as i32;
+    let x6 = s[at + 6 * step] as i32;
+    let x7 = s[at + 7 * step] as i32;
+    [x0, x1, x2, x3, x4, x5, x6, x7]
 }
 
 // Eight terms more of the odd half at place n.
@@ -32,8 +31,8 @@ pub(crate) fn dot8(t: &[i8; 4096], s: &[i16; 1024], x: &[i32; 8], z: i32, q: usi
 {
     let at = (16 * c + 1) * q * 64 + n;
     let step = q * 128;
-    z + (t[at] as i32) * x[0]
-        + (t[at + step] as i32) * x[1]
+    z + (t[at + 0 * step] as i32) * x[0]
+        + (t[at + 1 * step] as i32) * x[1]
         + (t[at + 2 * step] as i32) * x[2]
         + (t[at + 3 * step] as i32) * x[3]
         + (t[at + 4 * step] as i32) * x[4]

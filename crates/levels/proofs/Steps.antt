@@ -1,0 +1,202 @@
+-- What the helpers' steps give: terms added one by one, a place and its mirror written, a level begun and ended. Assumes nothing.
+use mathlib.Core.Path.{_≡_, refl, sym, ap, ap₂, _∙_, subst}
+use mathlib.Core.List.{List, [], _∷_}
+use Prim.Native.Nat.{ℕ, zero, suc, _+_, _*_, _-_, _/_, _<_, _≤_}
+use native.Mathlib.Omega.{arith}
+use native.Mathlib.Nat.{add-zero, mul-le-mul-right, le-trans}
+use lib.Dec.{T as T′, ltb, ltb→lt}
+use lib.ListN.{length, getD, set, length-set}
+use lib.IntN.{ℤ, pos, _+ℤ_, _-ℤ_, _*ℤ_}
+use Rattle.integers.specs.Sum.{ofZ+}
+use Rattle.integers.proofs.Bound.{Within, within-mono}
+use Rattle.integers.proofs.Sum.{sum-none}
+use Rattle.table.specs.Flat.{flat}
+use Rattle.itx.specs.Line.{line, rows, dot, odd, Inputs, Table, Level, Sums, Part}
+use Rattle.itx.proofs.Bounds.{odd-step, odd-multiple}
+use Rattle.itx.proofs.Step.{none, all, more}
+use Rattle.itx.proofs.Instance.{own-table}
+use Rattle.levels.specs.Steps.{laneList, T, half, Narrow, Within64, Picked, Eight, Lane, Halving, OfLane, Ready, Kept, Moved, All, Sized}
+use Rattle.levels.proofs.AsLine.{lane-length, lane-at, lane-set, kept-set, kept-then}
+use Rattle.levels.proofs.Bounds.{term, entry-within, input-within, dot-within, half-within, most, stride}
+
+-- ---- a lane as a level of the halving
+pub level-of : {s e : List ℤ} {m j : ℕ} → Halving s e m → j < 16 → Level flat 64 (laneList s j) m (32 / m)
+level-of {s} {e} {m} {j} g hj =
+    record {
+      table = subst (λ (N : ℕ). Table flat 64 N) (sym (g .whole)) (own-table 6 (omega arith) flat refl);
+      inputs = subst (λ (N : ℕ). Inputs (laneList s j) N) (sym (g .whole)) (record {
+        most = omega arith;
+        input = λ i h. record { room = omega (arith, lane-length s j); small = le-trans (input-within (g .narrow) hj i h .bound) (omega arith) };
+      });
+      size = g .size;
+      stride = stride m (32 / m) (g .whole);
+    }
+
+-- ---- a place and its mirror
+module _ {s e : List ℤ} {m n j : ℕ} {z : ℤ} (r : Ready s e m n j z) where
+  abbrev g : Halving s e m
+  g = r .lane .level
+
+  abbrev E : ℤ
+  E = dot T (32 / m + 32 / m) m n (line (laneList s j))
+
+  pub size-most : m ≤ 32
+  size-most = most (32 / m) m (stride m (32 / m) (g .whole)) (omega (arith, g .whole))
+
+  -- what the buffer holds at the place, and how large both are
+  pub even-is : getD e (n * 16 + j) (pos 0) ≡ E
+  even-is = sym (lane-at e j n (omega (arith, size-most, r .place))) ∙ r .lane .part .rest n (omega arith) (r .place)
+
+  pub even-small : Within 94371840 (getD e (n * 16 + j) (pos 0))
+  even-small =
+      subst (Within 94371840) (sym even-is)
+      (within-mono (omega (arith, size-most))
+      (dot-within (g .narrow) (r .lane .among) (32 / m + 32 / m) m n (omega (arith, stride m (32 / m) (g .whole))) (omega (arith, g .whole)) (omega (arith, size-most, r .place))))
+
+  pub odd-small : Within 94371840 z
+  odd-small =
+      subst (Within 94371840) (sym (r .odd))
+      (within-mono (omega (arith, size-most))
+      (half-within (g .narrow) (r .lane .among) (32 / m) m n (stride m (32 / m) (g .whole)) (omega (arith, g .whole)) (omega (arith, size-most, r .place))))
+
+  module _ (a b : ℤ) (ea : a ≡ getD e (n * 16 + j) (pos 0) +ℤ z) (eb : b ≡ getD e (n * 16 + j) (pos 0) -ℤ z) where
+    abbrev low : List ℤ
+    low = set e (n * 16 + j) a
+
+    abbrev both : List ℤ
+    both = set low ((2 * m - 1 - n) * 16 + j) b
+
+    longer : length both ≡ length e
+    longer = length-set low ((2 * m - 1 - n) * 16 + j) b ∙ length-set e (n * 16 + j) a
+
+    low-room : n * 16 + j < length e
+    low-room = omega (arith, r .place, r .lane .among, g .room)
+
+    high-room : (2 * m - 1 - n) * 16 + j < length low
+    high-room = omega (arith, r .place, r .lane .among, g .room, length-set e (n * 16 + j) a)
+
+    low-row : n < 64
+    low-row = omega (arith, size-most, r .place)
+
+    high-row : 2 * m - 1 - n < 64
+    high-row = omega (arith, size-most, r .place)
+
+    lane-is : laneList both j ≡ set (set (laneList e j) n a) (m + m - suc n) b
+    lane-is =
+        let i : 2 * m - 1 - n ≡ m + m - suc n = omega arith in
+        lane-set low j (2 * m - 1 - n) b (r .lane .among) high-row high-room
+        ∙ ap₂ (λ (l : List ℤ) (k : ℕ). set l k b) (lane-set e j n a (r .lane .among) low-row low-room) i
+
+    pub moved : Moved e s both m (n + 1) j
+    moved =
+        record {
+          lane =
+              record {
+                level = record { narrow = g .narrow; whole = g .whole; size = g .size; room = omega (arith, g .room, longer) };
+                among = r .lane .among;
+                part =
+                    subst (λ (l : List ℤ). Part l T (32 / m) m (n + 1) (laneList s j)) (sym lane-is)
+                    (more (level-of g (r .lane .among)) n (r .place) (r .lane .part) a b (ea ∙ ap₂ _+ℤ_ even-is (r .odd)) (eb ∙ ap₂ _-ℤ_ even-is (r .odd)));
+              };
+          kept =
+              kept-then (kept-set e j n a (r .lane .among) low-row low-room)
+              (kept-set low j (2 * m - 1 - n) b (r .lane .among) high-row high-room);
+        }
+
+-- ---- terms of the odd half
+module _ (s : List ℤ) (q k n j : ℕ) (h : Within64 q (k + 1) n j) where
+  pub row : (2 * k + 1) * q < 64
+  row = omega (arith, h .rows, h .some)
+
+  -- k terms are no more than the rows
+  pub half-small : Narrow s → {z : ℤ} → z ≡ half s j q k n → Within 94371840 z
+  half-small g e =
+      subst (Within 94371840) (sym e)
+      (within-mono (omega (arith, most q (k + 1) (h .some) (h .rows)))
+      (half-within g (h .among) q k n (h .some) (omega (arith, h .rows)) (h .column)))
+
+  pub one-more : (t : List ℤ) (z : ℤ) → t ≡ flat → z ≡ half s j q k n → z +ℤ getD t ((2 * k + 1) * q * 64 + n) (pos 0) *ℤ getD s ((2 * k + 1) * q * 16 + j) (pos 0) ≡ half s j q (k + 1) n
+  one-more t z et ez =
+      ap₂ _+ℤ_ ez (ap₂ _*ℤ_ (ap (λ (l : List ℤ). getD l ((2 * k + 1) * q * 64 + n) (pos 0)) et) (sym (lane-at s j ((2 * k + 1) * q) row)))
+      ∙ odd-step T q k n (line (laneList s j))
+
+-- no term
+pub half-none : (s : List ℤ) (j q n : ℕ) → pos 0 ≡ half s j q 0 n
+unfolding odd
+half-none s j q n = sym (sum-none ofZ+ _)
+
+-- ---- eight of them
+module _ (q c n j : ℕ) (h : Within64 q (8 * c + 8) n j) where
+  pub octaves : c ≤ 3
+  octaves = omega (arith, most q (8 * c + 8) (h .some) (h .rows))
+
+  -- the last places that are read
+  pub last-input : (16 * c + 1) * q * 16 + j + 7 * (q * 32) < 1024
+  last-input = omega (arith, h .rows, h .some, h .among)
+
+  pub last-number : (16 * c + 1) * q * 64 + n + 7 * (q * 128) < 4096
+  last-number = omega (arith, h .rows, h .some, h .column)
+
+  module _ (i : ℕ) (hi : i < 8) where
+    abbrev d : ℕ
+    d = suc (8 * c + i + (8 * c + i)) * q
+
+    pub eighth-row : d < 64
+    eighth-row = omega (arith, h .rows, h .some, mul-le-mul-right {m = i} {n = 7} q (omega arith))
+
+    pub eighth-input : (s : List ℤ) → getD s ((16 * c + 1) * q * 16 + j + i * (q * 32)) (pos 0) ≡ line (laneList s j) d
+    eighth-input s =
+        let e : (16 * c + 1) * q * 16 + j + i * (q * 32) ≡ d * 16 + j = omega arith in
+        ap (λ (k : ℕ). getD s k (pos 0)) e ∙ sym (lane-at s j d eighth-row)
+
+    pub eighth-number : {t : List ℤ} → t ≡ flat → getD t ((16 * c + 1) * q * 64 + n + i * (q * 128)) (pos 0) ≡ T d n
+    eighth-number et =
+        let e : (16 * c + 1) * q * 64 + n + i * (q * 128) ≡ d * 64 + n = omega arith in
+        ap₂ (λ (l : List ℤ) (k : ℕ). getD l k (pos 0)) et e
+
+-- a list of eight, entry by entry
+pub eight-at : (f : ℕ → ℤ) (i : ℕ) → i < 8 → getD (f 0 ∷ f 1 ∷ f 2 ∷ f 3 ∷ f 4 ∷ f 5 ∷ f 6 ∷ f 7 ∷ []) i (pos 0) ≡ f i
+eight-at f zero h = refl
+eight-at f (suc zero) h = refl
+eight-at f (suc (suc zero)) h = refl
+eight-at f (suc (suc (suc zero))) h = refl
+eight-at f (suc (suc (suc (suc zero)))) h = refl
+eight-at f (suc (suc (suc (suc (suc zero))))) h = refl
+eight-at f (suc (suc (suc (suc (suc (suc zero)))))) h = refl
+eight-at f (suc (suc (suc (suc (suc (suc (suc zero))))))) h = refl
+eight-at f (suc (suc (suc (suc (suc (suc (suc (suc i)))))))) h = let z : ⊥ = omega arith in absurd z
+
+-- z and the first k products of table and picked inputs
+abbrev pub run : (ℕ → ℤ) → ℤ → ℕ → ℤ
+run f z zero = z
+run f z (suc k) = run f z k +ℤ f k
+
+module _ {t s x : List ℤ} {z : ℤ} {q c n j : ℕ} (r : Eight t s x z q c n j) where
+  pub so-far-small : Within 94371840 z
+  so-far-small =
+      subst (Within 94371840) (sym (r .so-far))
+      (within-mono (omega (arith, octaves q c n j (r .inside)))
+      (half-within (r .narrow) (r .inside .among) q (8 * c) n (r .inside .some) (omega (arith, r .inside .rows)) (r .inside .column)))
+
+  pub number-small : (i : ℕ) → T′ (ltb i 8) → Within 90 (getD t ((16 * c + 1) * q * 64 + n + i * (q * 128)) (pos 0))
+  number-small i h =
+      subst (Within 90) (sym (eighth-number q c n j (r .inside) i (ltb→lt i 8 h) (r .table)))
+      (entry-within _ n (eighth-row q c n j (r .inside) i (ltb→lt i 8 h)) (r .inside .column))
+
+  pub picked-small : (i : ℕ) → T′ (ltb i 8) → Within 32768 (getD x i (pos 0))
+  picked-small i h =
+      subst (Within 32768) (sym (r .picked .at i (ltb→lt i 8 h))) (input-within (r .narrow) (r .inside .among) _ (eighth-row q c n j (r .inside) i (ltb→lt i 8 h)))
+
+  abbrev product : ℕ → ℤ
+  product i = getD t ((16 * c + 1) * q * 64 + n + i * (q * 128)) (pos 0) *ℤ getD x i (pos 0)
+
+  run-is : (k : ℕ) → k ≤ 8 → run product z k ≡ half s j q (8 * c + k) n
+  run-is zero h = r .so-far ∙ ap (λ (i : ℕ). half s j q i n) (sym (add-zero (8 * c)))
+  run-is (suc k) h =
+      let e : suc (8 * c + k + (8 * c + k)) ≡ 2 * (8 * c + k) + 1 = omega arith in
+      let l : 8 * c + k + 1 ≡ 8 * c + suc k = omega arith in
+      ap₂ _+ℤ_ (run-is k (omega arith)) (ap₂ _*ℤ_ (eighth-number q c n j (r .inside) k (omega arith) (r .table)) (r .picked .at k (omega arith)) ∙ ap (λ (i : ℕ). T (i * q) n *ℤ line (laneList s j) (i * q)) e)
+      ∙ odd-step T q (8 * c + k) n (line (laneList s j)) ∙ ap (λ (i : ℕ). half s j q i n) l
+
+  pub eight-more : run product z 8 ≡ half s j q (8 * c + 8) n
+  eight-more = run-is 8 (omega arith)
