@@ -9,7 +9,7 @@ use mir.Val.{SFits, toZ, ofZ}
 use mir.Facts.{sfits-lit, toZ-ofZ}
 use Rattle.integers.specs.Z.{floorPow}
 use Rattle.integers.proofs.Dif.{dif, up, dn, of, of-pos, dif-eq, difs}
-use Rattle.integers.proofs.Order.{≤-dif, <-dif, dif-≤, sfits-parts, between-sfits}
+use Rattle.integers.proofs.Order.{≤-nat, ≤-dif, <-dif, dif-≤, sfits-parts, between-sfits}
 use Rattle.integers.proofs.Bound.{sfits-shr}
 use Rattle.integers.proofs.Floor.{floor-below, floor-above}
 use Rattle.blocks.specs.Blocks.{upper, rest}
@@ -31,34 +31,34 @@ scaled-fits q h =
     between-sfits w32 (negsuc 2147483647) (pos 2147483647) (q *ℤ pos 65536) (sfits-lit tt) (sfits-lit tt)
     (rw (of q) (simp difs (dif-≤ _ _ _ _ (omega arith)))) (rw (of q) (simp difs (dif-≤ _ _ _ _ (omega arith))))
 
--- what is left of x after 65536 · q, where q is the floor
-module _ (q x : ℤ) (h : (q *ℤ pos 65536) ≤ℤ x) (k : x <ℤ ((q +ℤ pos 1) *ℤ pos 65536)) where
-  left-fits : SFits w32 (x -ℤ q *ℤ pos 65536)
-  left-fits =
-      let h′ : (dif (up q) (dn q) *ℤ dif 65536 0) ≤ℤ dif (up x) (dn x) = rw (of q, of x, of-pos 65536) at h in
-      let k′ : dif (up x) (dn x) <ℤ ((dif (up q) (dn q) +ℤ dif 1 0) *ℤ dif 65536 0) = rw (of q, of x, of-pos 65536, of-pos 1) at k in
-      let a = ≤-dif _ _ _ _ (simp difs at h′) in
-      let b = <-dif _ _ _ _ (simp difs at k′) in
-      between-sfits w32 (pos 0) (pos 65535) (x -ℤ q *ℤ pos 65536) (sfits-lit tt) (sfits-lit tt)
-      (rw (of q, of x) (simp difs (dif-≤ _ _ _ _ (omega arith)))) (rw (of q, of x) (simp difs (dif-≤ _ _ _ _ (omega arith))))
+-- what is left of x after 65536 · q, where q is the floor: it fits 32 bits, and less 32768 it fits 16
+left : (q x : ℤ) → (q *ℤ pos 65536) ≤ℤ x → x <ℤ ((q +ℤ pos 1) *ℤ pos 65536) → (pos 0 ≤ℤ (x -ℤ q *ℤ pos 65536)) × ((x -ℤ q *ℤ pos 65536) ≤ℤ pos 65535)
+left q x h k =
+    let h′ : (dif (up q) (dn q) *ℤ dif 65536 0) ≤ℤ dif (up x) (dn x) = rw (of q, of x, of-pos 65536) at h in
+    let k′ : dif (up x) (dn x) <ℤ ((dif (up q) (dn q) +ℤ dif 1 0) *ℤ dif 65536 0) = rw (of q, of x, of-pos 65536, of-pos 1) at k in
+    let a = ≤-dif _ _ _ _ (simp difs at h′) in
+    let b = <-dif _ _ _ _ (simp difs at k′) in
+    (rw (of q, of x) (simp difs (dif-≤ _ _ _ _ (omega arith))), rw (of q, of x) (simp difs (dif-≤ _ _ _ _ (omega arith))))
 
-  low-fits : SFits w16 (x -ℤ q *ℤ pos 65536 -ℤ pos 32768)
-  low-fits =
-      let h′ : (dif (up q) (dn q) *ℤ dif 65536 0) ≤ℤ dif (up x) (dn x) = rw (of q, of x, of-pos 65536) at h in
-      let k′ : dif (up x) (dn x) <ℤ ((dif (up q) (dn q) +ℤ dif 1 0) *ℤ dif 65536 0) = rw (of q, of x, of-pos 65536, of-pos 1) at k in
-      let a = ≤-dif _ _ _ _ (simp difs at h′) in
-      let b = <-dif _ _ _ _ (simp difs at k′) in
-      between-sfits w16 (negsuc 32767) (pos 32767) (x -ℤ q *ℤ pos 65536 -ℤ pos 32768) (sfits-lit tt) (sfits-lit tt)
-      (rw (of q, of x) (simp difs (dif-≤ _ _ _ _ (omega arith)))) (rw (of q, of x) (simp difs (dif-≤ _ _ _ _ (omega arith))))
+module _ (y : ℤ) (r : (pos 0 ≤ℤ y) × (y ≤ℤ pos 65535)) where
+  whole-fits : SFits w32 y
+  whole-fits = between-sfits w32 (pos 0) (pos 65535) y (sfits-lit tt) (sfits-lit tt) (r .0) (r .1)
+
+  lowered-fits : SFits w16 (y -ℤ pos 32768)
+  lowered-fits =
+      let a = ≤-nat (r .0) in
+      let b = ≤-nat (r .1) in
+      between-sfits w16 (negsuc 32767) (pos 32767) (y -ℤ pos 32768) (sfits-lit tt) (sfits-lit tt)
+      (rw (of y) (simp difs (dif-≤ _ _ _ _ (omega arith)))) (rw (of y) (simp difs (dif-≤ _ _ _ _ (omega arith))))
 
 -- of the code's own numbers
 pub residue-fits : (x : ℤ) → SFits w32 (x -ℤ upper x *ℤ pos 65536)
 unfolding upper
-residue-fits x = left-fits (floorPow x 16) x (floor-below x 16) (floor-above x 16)
+residue-fits x = whole-fits _ (left (floorPow x 16) x (floor-below x 16) (floor-above x 16))
 
 pub rest-fits : (x : ℤ) → SFits w16 (rest x)
 unfolding rest
-rest-fits x = low-fits (floorPow x 16) x (floor-below x 16) (floor-above x 16)
+rest-fits x = lowered-fits _ (left (floorPow x 16) x (floor-below x 16) (floor-above x 16))
 
 -- together they are the number
 join : (q x : ℤ) → x ≡ pos 65536 *ℤ q +ℤ (x -ℤ q *ℤ pos 65536 -ℤ pos 32768) +ℤ pos 32768

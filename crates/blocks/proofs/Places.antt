@@ -45,12 +45,6 @@ module _ (j0 j N : ℕ) where
   pub line-start : (j0 + j) * N ≡ j0 * N + j * N
   line-start = omega arith
 
-  pub no-line : {d : List ℤ} {a : ℕ} {g : ℕ → ℤ} → Next d d a (0 * N) g
-  no-line = rw (zero-mul N) next-none
-
-  pub line-end : (j + 1) * N ≡ j * N + N
-  line-end = omega arith
-
   -- it lies within the block's output
   pub line-room : (H : ℕ) → j < 16 → j0 * N + 16 * N ≤ H → (j0 + j) * N + N ≤ H
   line-room H h r = omega (arith, suc-mul j N, mul-le-mul-right {m = suc j} {n = 16} N h)
@@ -59,20 +53,26 @@ module _ (j0 j N : ℕ) where
   pub line-word : (H : ℕ) → 0 < N → j < 16 → j0 * N + 16 * N ≤ H → j0 + j < H
   line-word H s h r = omega (arith, add-mul j0 16 N, mul-le-mul-left {m = 1} {n = N} (j0 + 16) s)
 
+pub no-line : (N : ℕ) {d : List ℤ} {a : ℕ} {g : ℕ → ℤ} → Next d d a (0 * N) g
+no-line N = rw (zero-mul N) next-none
+
+pub line-end : (j N : ℕ) → (j + 1) * N ≡ j * N + N
+line-end j N = omega arith
+
 -- place k of lane j is place j·N + k of the block
 pub lane-place : (f : ℕ → ℕ → ℤ) (j k N : ℕ) → k < N → f j k ≡ f ((j * N + k) / N) ((j * N + k) % N)
 lane-place f j k N h = sym (grid-at f j k N h)
 
 -- ---- the block of lines 16·i .. 16·i + 15
-module _ (N l i : ℕ) where
-  pub block-word : i < l / 16 → i * 16 + 16 ≤ l
-  block-word h = omega (arith, div-add-mod' l 16)
+pub block-word : (l i : ℕ) → i < l / 16 → i * 16 + 16 ≤ l
+block-word l i h = omega (arith, div-add-mod' l 16)
 
+module _ (N l i : ℕ) where
   pub block-room : {src d₀ : List ℤ} (d : List ℤ) → length d ≡ length d₀ → i < l / 16 → Rooms src d₀ N l → Room src d N l (i * 16)
   block-room d e h r = record {
-    among = block-word h;
+    among = block-word l i h;
     src-room = r .src-room;
-    dst-room = omega (arith, e, r .dst-room, mul-comm N l, add-mul (i * 16) 16 N, mul-le-mul-right {m = i * 16 + 16} {n = l} N (block-word h));
+    dst-room = omega (arith, e, r .dst-room, mul-comm N l, add-mul (i * 16) 16 N, mul-le-mul-right {m = i * 16 + 16} {n = l} N (block-word l i h));
   }
 
   pub block-more : (G : ℕ → ℤ) {d₀ d d′ : List ℤ} → Next d₀ d 0 (i * 16 * N) G → Blocked G d d′ N (i * 16) → Next d₀ d′ 0 ((i + 1) * 16 * N) G

@@ -3,7 +3,7 @@ use mathlib.Core.Path.{_≡_, sym, ap, ap₂, _∙_}
 use mathlib.Core.List.{List}
 use Prim.Native.Nat.{ℕ, _+_, _*_, _/_, _%_, _<_, _≤_}
 use native.Mathlib.Omega.{arith}
-use native.Mathlib.Nat.{add-mul, mul-assoc, mod-lt, div-add-mod', lt-of-mul-lt-mul-right, mul-le-mul-right}
+use native.Mathlib.Nat.{add-mul, mul-assoc, mod-lt, div-add-mod', lt-of-mul-lt-mul-right}
 use lib.ListN.{length, getD}
 use lib.IntN.{ℤ, pos, _+ℤ_, _*ℤ_, natAbs}
 use Rattle.integers.specs.Z.{floorPow, clip16, clip32}

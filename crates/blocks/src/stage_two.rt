@@ -3,7 +3,7 @@
 // Differs from the Rust in: the sums of 16 lines are made side by side, and by `levels`; the last sum is formed in 64 bits from two of 32; calls
 // that are refused, of a size below 32 or of fewer lines are `itx`'s.
 ghost use mathlib.Core.Path.{_≡_};
-ghost use Prim.Native.Nat.{_*_, _%_, _^_, _≤_};
+ghost use Prim.Native.Nat.{_*_, _%_, _≤_};
 ghost use lib.ListN.{length};
 ghost use Rattle.integers.specs.Lists.{written};
 ghost use Rattle.evc.specs.Answers.{answerNumber};

@@ -1,5 +1,4 @@
 // The sums of a block, line after line, as one run of the output: stage one's tail. Document 01, "The two stages".
-ghost use mathlib.Core.Path.{_≡_};
 ghost use Prim.Native.Nat.{_+_, _*_, _<_, _≤_};
 ghost use lib.ListN.{length, getD};
 ghost use lib.IntN.{pos};

@@ -23,4 +23,3 @@ fn lane8_0(t: &[i8; 4096], s: &[i16; 1024], e: &mut [i32], j: usize)
     put(s, e, 8, 6, j, dot8(t, s, &a, 0, 4, 0, 6, j));
     put(s, e, 8, 7, j, dot8(t, s, &a, 0, 4, 0, 7, j));
 }
-

@@ -26,7 +26,7 @@ mul-copy-row-2 : tie.Need-mul-copy-row-2 Inv-loop μ-loop
 mul-copy-row-2 c = omega (arith, write-room (c .before .before .before .pre) (c .before .before .loop .k) (c .before .loop-test .taken))
 
 copy-row-requires : tie.Need-copy-row-requires Inv-loop μ-loop
-copy-row-requires c κs = (read-room (c .before .before .before .pre) (c .before .before .loop .k) (c .before .loop-test .taken), omega (arith, write-room (c .before .before .before .pre) (c .before .before .loop .k) (c .before .loop-test .taken), c .before .before .loop .inv .1 .long))
+copy-row-requires c κs = (omega (arith, read-room (c .before .before .before .pre) (c .before .before .loop .k) (c .before .loop-test .taken)), omega (arith, write-room (c .before .before .before .pre) (c .before .before .loop .k) (c .before .loop-test .taken), c .before .before .loop .inv .1 .long))
 
 add-k : tie.Need-add-k Inv-loop μ-loop
 add-k c = omega (arith, c .before .before .before .loop-test .taken)

@@ -26,7 +26,7 @@ mul-low-row-2 : tie.Need-mul-low-row-2 Inv-loop μ-loop
 mul-low-row-2 c = omega (arith, write-room (c .before .before .before .pre) (c .before .before .loop .k) (c .before .loop-test .taken))
 
 low-row-requires : tie.Need-low-row-requires Inv-loop μ-loop
-low-row-requires c κs = (read-room (c .before .before .before .pre) (c .before .before .loop .k) (c .before .loop-test .taken), omega (arith, write-room (c .before .before .before .pre) (c .before .before .loop .k) (c .before .loop-test .taken), c .before .before .loop .inv .1 .long))
+low-row-requires c κs = (omega (arith, read-room (c .before .before .before .pre) (c .before .before .loop .k) (c .before .loop-test .taken)), omega (arith, write-room (c .before .before .before .pre) (c .before .before .loop .k) (c .before .loop-test .taken), c .before .before .loop .inv .1 .long))
 
 add-k : tie.Need-add-k Inv-loop μ-loop
 add-k c = omega (arith, c .before .before .before .loop-test .taken)

@@ -1,7 +1,6 @@
 -- `blocks::stage_one::ones` meets its contract: block after block. Assumes nothing.
-use Prim.Native.Nat.{ℕ, _*_, _-_, _^_, _≤_}
+use Prim.Native.Nat.{_*_, _-_, _^_, _≤_}
 use native.Mathlib.Omega.{arith}
-use lib.IntN.{ℤ}
 use Rattle.evc.specs.Table.{tm}
 use Rattle.evc.specs.Stages.{stageOneAt}
 use Rattle.itx.specs.Lines.{Next}
@@ -19,7 +18,7 @@ loop-holds : tie.Need-loop-holds Inv-loop μ-loop
 loop-holds c = (omega arith, block-none (2 ^ c .args .log))
 
 mul-one : tie.Need-mul-one Inv-loop μ-loop
-mul-one c = omega (arith, block-word 0 (c .before .before .before .args .l) (c .before .before .loop .i) (c .before .loop-test .taken))
+mul-one c = omega (arith, block-word (c .before .before .before .args .l) (c .before .before .loop .i) (c .before .loop-test .taken))
 
 one-requires : tie.Need-one-requires Inv-loop μ-loop
 one-requires c κs =

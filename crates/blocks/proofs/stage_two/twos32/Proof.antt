@@ -1,10 +1,9 @@
 -- `blocks::stage_two::twos32` meets its contract: block after block. Assumes nothing.
 use borrow.Author.Needs.{sfits-of}
 use mathlib.Core.Path.{refl, sym, ap, _∙_}
-use Prim.Native.Nat.{ℕ, _*_, _-_, _≤_}
+use Prim.Native.Nat.{_*_, _-_, _≤_}
 use native.Mathlib.Omega.{arith}
 use lib.ListN.{length}
-use lib.IntN.{ℤ, natAbs}
 use mir.Facts.{toZ-ofZ}
 use Rattle.integers.proofs.Written.{tab-length}
 use Rattle.evc.specs.Table.{tm}
@@ -46,7 +45,7 @@ slice-aggregate-two32 : tie.Need-slice-aggregate-two32 Inv-loop μ-loop
 slice-aggregate-two32 c = sym (ap length (c .before .before .before .before .offsets .ensures) ∙ tab-length 32 _)
 
 mul-two32 : tie.Need-mul-two32 Inv-loop μ-loop
-mul-two32 c = omega (arith, block-word 0 (c .before .before .before .before .before .before .before .before .before .before .args .l) (c .before .before .before .loop .i) (c .before .before .loop-test .taken))
+mul-two32 c = omega (arith, block-word (c .before .before .before .before .before .before .before .before .before .before .args .l) (c .before .before .before .loop .i) (c .before .before .loop-test .taken))
 
 two32-requires : tie.Need-two32-requires Inv-loop μ-loop
 two32-requires c κs =

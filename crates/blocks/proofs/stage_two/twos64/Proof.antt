@@ -1,10 +1,9 @@
 -- `blocks::stage_two::twos64` meets its contract: block after block. Assumes nothing.
 use borrow.Author.Needs.{sfits-of}
 use mathlib.Core.Path.{refl, sym, ap, _∙_}
-use Prim.Native.Nat.{ℕ, _*_, _-_, _≤_}
+use Prim.Native.Nat.{_*_, _-_, _≤_}
 use native.Mathlib.Omega.{arith}
 use lib.ListN.{length}
-use lib.IntN.{ℤ, natAbs}
 use mir.Facts.{toZ-ofZ}
 use Rattle.integers.proofs.Written.{tab-length}
 use Rattle.evc.specs.Table.{tm}
@@ -46,7 +45,7 @@ slice-aggregate-two64 : tie.Need-slice-aggregate-two64 Inv-loop μ-loop
 slice-aggregate-two64 c = sym (ap length (c .before .before .before .before .offsets .ensures) ∙ tab-length 64 _)
 
 mul-two64 : tie.Need-mul-two64 Inv-loop μ-loop
-mul-two64 c = omega (arith, block-word 0 (c .before .before .before .before .before .before .before .before .before .before .args .l) (c .before .before .before .loop .i) (c .before .before .loop-test .taken))
+mul-two64 c = omega (arith, block-word (c .before .before .before .before .before .before .before .before .before .before .args .l) (c .before .before .before .loop .i) (c .before .before .loop-test .taken))
 
 two64-requires : tie.Need-two64-requires Inv-loop μ-loop
 two64-requires c κs =

@@ -7,7 +7,7 @@ use lib.IntN.{pos}
 use Rattle.integers.specs.Z.{clip32}
 use Rattle.itx.specs.Lines.{Next}
 use Rattle.blocks.specs.Blocks.{crossed}
-use Rattle.blocks.proofs.Places.{next-join, no-line, line-start, line-end, line-room, lane-place}
+use Rattle.blocks.proofs.Places.{next-join, no-line, line-start, line-end, lane-place}
 use Rattle.blocks.proofs.store.store64.Statement.{statement}
 use Rattle.blocks.proofs.store.store64.Tie as tie
 
@@ -18,7 +18,7 @@ abbrev μ-loop : tie.MeasureT-loop
 μ-loop e dst₀ j0 j₀ dst j = 16 - j
 
 loop-holds : tie.Need-loop-holds Inv-loop μ-loop
-loop-holds c = (omega arith, no-line 0 0 64)
+loop-holds c = (omega arith, no-line 64)
 
 add-store-line : tie.Need-add-store-line Inv-loop μ-loop
 add-store-line c = omega (arith, c .before .before .before .pre .1)
@@ -44,7 +44,7 @@ loop-again c =
     let l = c .before .before .before .before .loop in (
       omega (arith, c .before .before .before .loop-test .taken),
       next-join (l .j * 64) 64 ((s .args .j0 + l .j) * 64) ((l .j + 1) * 64) (l .inv .1) (line-start (s .args .j0) (l .j) 64) (c .before .store-line .ensures)
-          (λ k h. lane-place (λ j k. clip32 (getD (s .args .e .now) (k * 16 + j) (pos 0))) (l .j) k 64 h) (line-end 0 (l .j) 64),
+          (λ k h. lane-place (λ j k. clip32 (getD (s .args .e .now) (k * 16 + j) (pos 0))) (l .j) k 64 h) (line-end (l .j) 64),
     )
 
 same-length : tie.Need-same-length Inv-loop μ-loop

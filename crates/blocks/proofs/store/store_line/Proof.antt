@@ -2,15 +2,15 @@
 use borrow.Author.Needs.{sfits-of}
 use mathlib.Core.Path.{ap, _∙_, subst}
 use mathlib.Core.List.{[], _∷_}
-use Prim.Native.Nat.{ℕ, _+_, _*_, _-_, _≤_, _<_}
+use Prim.Native.Nat.{ℕ, _+_, _*_, _-_, _≤_}
 use native.Mathlib.Omega.{arith}
-use lib.ListN.{length, getD}
-use lib.IntN.{ℤ, pos}
+use lib.ListN.{getD}
+use lib.IntN.{pos}
 use mir.Syntax.{w32, w64}
 use mir.Val.{SFits, toZ, ofZ}
 use mir.Facts.{toZ-ofZ}
 use Rattle.integers.specs.Z.{clip32}
-use Rattle.integers.proofs.Expr.{var, loc, Known, arg, env, fit, reads}
+use Rattle.integers.proofs.Expr.{var, loc, arg, env, fit, reads}
 use Rattle.itx.specs.Lines.{Next}
 use Rattle.itx.proofs.Lines.{next-none, next-more}
 use Rattle.blocks.proofs.store.store_line.Statement.{statement}

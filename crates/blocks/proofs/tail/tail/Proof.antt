@@ -1,9 +1,9 @@
 -- `blocks::tail::tail` meets its contract: line after line. Assumes nothing.
 use mathlib.Core.List.{List}
-use mathlib.Core.Path.{_≡_, ap, subst}
-use Prim.Native.Nat.{ℕ, _+_, _*_, _-_, _%_, _≤_, _<_}
+use mathlib.Core.Path.{_≡_, subst}
+use Prim.Native.Nat.{ℕ, _+_, _*_, _-_, _%_, _≤_}
 use native.Mathlib.Omega.{arith}
-use lib.ListN.{length, getD}
+use lib.ListN.{getD}
 use lib.IntN.{ℤ, pos}
 use Rattle.itx.specs.Lines.{Next}
 use Rattle.blocks.specs.Blocks.{crossed, joined}
@@ -22,7 +22,7 @@ abbrev μ-loop : tie.MeasureT-loop
 μ-loop h a c dst₀ n j0 shift j₀ dst j = 16 - j
 
 loop-holds : tie.Need-loop-holds Inv-loop μ-loop
-loop-holds c = (omega arith, no-line 0 0 (c .args .n))
+loop-holds c = (omega arith, no-line (c .args .n))
 
 add-tail-line : tie.Need-add-tail-line Inv-loop μ-loop
 add-tail-line c =
@@ -53,7 +53,7 @@ loop-again c =
     let n = s .args .n in (
       omega (arith, c .before .before .before .loop-test .taken),
       next-join (l .j * n) n ((s .args .j0 + l .j) * n) ((l .j + 1) * n) (l .inv .1) (line-start (s .args .j0) (l .j) n) (c .before .tail-line .ensures)
-          (λ k h. lane-place (λ j k. joined (s .args .shift) (getD (s .args .h .now) (k * 16 + j) (pos 0)) (getD (s .args .a .now) (k * 16 + j) (pos 0)) (getD (s .args .c .now) k (pos 0))) (l .j) k n h) (line-end 0 (l .j) n),
+          (λ k h. lane-place (λ j k. joined (s .args .shift) (getD (s .args .h .now) (k * 16 + j) (pos 0)) (getD (s .args .a .now) (k * 16 + j) (pos 0)) (getD (s .args .c .now) k (pos 0))) (l .j) k n h) (line-end (l .j) n),
     )
 
 same-length : tie.Need-same-length Inv-loop μ-loop

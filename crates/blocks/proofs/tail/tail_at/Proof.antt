@@ -7,7 +7,6 @@ use lib.IntN.{pos}
 use mir.Syntax.{w32, w64}
 use mir.Val.{SFits}
 use mir.Facts.{toZ-ofZ}
-use Rattle.blocks.specs.Blocks.{joined}
 use Rattle.blocks.proofs.tail.tail_at.Statement.{statement}
 use Rattle.blocks.proofs.tail.tail_at.Tie as tie
 
