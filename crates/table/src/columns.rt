@@ -1,5 +1,6 @@
 // The sums of the table's columns, times 32768, for the sizes 32 and 64: what a line of inputs that are all 32768 gives. A number of 32 bits is
 // 65536 times its upper half, plus 32768, plus a rest of 16 bits with its sign, so a stage that sums upper halves and rests adds these.
+// Written by tools/table.py; what they are is proved in proofs/ColumnSums.antt.
 ghost use mathlib.Core.Path.{_≡_};
 ghost use Rattle.integers.specs.Lists.{tab};
 ghost use Rattle.table.specs.Columns.{column};
