@@ -1,7 +1,8 @@
 #!/usr/bin/env python3
-"""Writes the 64 by 64 transform table of the crate `table`: what the code stores, and the same numbers as its proofs read them.
+"""Writes the 64 by 64 transform table of the crate `table`: what the code stores, and the same numbers as its proofs read them; and the sums of
+its columns.
 
-    tools/table.py            writes both files, in the layout of `rt fmt`
+    tools/table.py            writes the files, in the layout of `rt fmt`
     tools/table.py --check    writes nothing; fails where a file differs from what would be written
 
 The numbers are made by document 01's rule, the fold of (2n+1)·k mod 256. First of all they are held against what the rule stands for,
@@ -57,10 +58,30 @@ def proof(rows):
         yield f"    {'∷ ' if k else ''}{line}{'' if k < 63 else ' ∷ []'}"
 
 
+def columns(rows):
+    """src/columns.rt: 32768 times each column's sum, where size N takes every (64/N)th row."""
+    yield "// The sums of the table's columns, times 32768, for the sizes 32 and 64: what a line of inputs that are all 32768 gives. A number of 32 bits is"
+    yield "// 65536 times its upper half, plus 32768, plus a rest of 16 bits with its sign, so a stage that sums upper halves and rests adds these."
+    yield "// Written by tools/table.py; what they are is proved in proofs/ColumnSums.antt."
+    yield "ghost use mathlib.Core.Path.{_≡_};"
+    yield "ghost use Rattle.integers.specs.Lists.{tab};"
+    yield "ghost use Rattle.table.specs.Columns.{column};"
+    for size in (32, 64):
+        yield ""
+        yield f"pub fn columns{size}() -> [i32; {size}]"
+        yield f"    ensures {{ λ r. ⌜ r ≡ tab {size} (column {size}) ⌝ }}"
+        yield "{"
+        yield "    ["
+        yield from (f"        {32768 * sum(row[n] for row in rows[:: 64 // size])}," for n in range(size))
+        yield "    ]"
+        yield "}"
+
+
 def main():
     rows = [[fold(k, n) for n in range(64)] for k in range(64)]
     assert all(rows[k][n] == nearest(k, n) for k in range(64) for n in range(64))
-    for path, lines in ((CRATE / "src" / "tm.rt", code(rows)), (CRATE / "proofs" / "Stored.antt", proof(rows))):
+    files = ((CRATE / "src" / "tm.rt", code(rows)), (CRATE / "proofs" / "Stored.antt", proof(rows)), (CRATE / "src" / "columns.rt", columns(rows)))
+    for path, lines in files:
         text = "\n".join(lines) + "\n"
         if sys.argv[1:] != ["--check"]:
             path.write_text(text)

@@ -1,11 +1,12 @@
 -- Laws of finite sums. First those of any addition, each proved once (`sum-step ofZ+ n f` is the law of ℤ); then those that need the
 -- products, the sign or the absolute value of ℤ; then the bounds of ℕ; then a sum of ℤ whose summands are not negative. Assumes nothing.
-use mathlib.Core.Path.{_≡_, refl, sym, ap, _∙_}
+use mathlib.Core.Path.{_≡_, refl, sym, ap, ap₂, _∙_}
 use Prim.Native.Nat.{ℕ, zero, suc, _+_, _*_, _≤_, _<_}
 use native.Mathlib.Omega.{arith}
 use native.Mathlib.Nat.{add-zero, add-suc}
 use lib.IntN.{ℤ, pos, _+ℤ_, _*ℤ_, negℤ, *ℤ-zero, zero-*ℤ, negℤ-+ℤ, pos-+ℤ-pos}
-use Rattle.integers.specs.Sum.{Addition, sum, sumZ, sumN}
+use Rattle.integers.specs.Sum.{Addition, ofZ+, sum, sumZ, sumN}
+use Rattle.integers.proofs.Dif.{of, dif-eq, difs}
 use Rattle.integers.proofs.Ring.{*ℤ-distl, *ℤ-distr}
 use Rattle.integers.proofs.Bound.{Within, within-add, within-mono}
 
@@ -92,6 +93,19 @@ pub sum-neg : (n : ℕ) (f : ℕ → ℤ) → sumZ n (λ k. negℤ (f k)) ≡ ne
 unfolding sum
 sum-neg zero f = refl
 sum-neg (suc n) f = ap (λ (z : ℤ). z +ℤ negℤ (f n)) (sum-neg n f) ∙ sym (negℤ-+ℤ (sumZ n f) (f n))
+
+-- a factor that is a·h + l + c, spread over the products
+spread : (a c t h l : ℤ) → t *ℤ (a *ℤ h +ℤ l +ℤ c) ≡ a *ℤ (t *ℤ h) +ℤ t *ℤ l +ℤ c *ℤ t
+spread a c t h l = rw (of a, of c, of t, of h, of l) (simp difs (dif-eq _ _ _ _ (omega arith)))
+
+-- so a sum of products with such factors is made of three sums
+pub sum-spread : (n : ℕ) (a c : ℤ) (t h l : ℕ → ℤ) → sumZ n (λ k. t k *ℤ (a *ℤ h k +ℤ l k +ℤ c)) ≡ a *ℤ sumZ n (λ k. t k *ℤ h k) +ℤ sumZ n (λ k. t k *ℤ l k) +ℤ c *ℤ sumZ n t
+sum-spread n a c t h l =
+    sum-ext ofZ+ n _ (λ k. a *ℤ (t k *ℤ h k) +ℤ t k *ℤ l k +ℤ c *ℤ t k) (λ k p. spread a c (t k) (h k) (l k))
+    ∙ sum-add ofZ+ n (λ k. a *ℤ (t k *ℤ h k) +ℤ t k *ℤ l k) (λ k. c *ℤ t k)
+    ∙ ap₂ _+ℤ_
+    (sum-add ofZ+ n (λ k. a *ℤ (t k *ℤ h k)) (λ k. t k *ℤ l k) ∙ ap (λ (z : ℤ). z +ℤ sumZ n (λ k. t k *ℤ l k)) (sum-scale n a (λ k. t k *ℤ h k)))
+    (sum-scale n c t)
 
 -- a sum of n numbers, each within b, is within n · b
 pub within-sum : (n b : ℕ) (f : ℕ → ℤ) → ((k : ℕ) → k < n → Within b (f k)) → Within (n * b) (sumZ n f)

@@ -2,3 +2,4 @@
 pub mod Stored
 pub mod Rule
 pub mod Mirror
+pub mod ColumnSums

@@ -1,0 +1,34 @@
+-- `blocks::tail::half` meets its contract: one test over the 32 shifts. Assumes nothing.
+use borrow.Author.Needs.{needs}
+use mathlib.Core.Bool.{Bool}
+use Prim.Native.Nat.{ℕ, _*_, _^_, _%_}
+use native.Mathlib.Omega.{arith}
+use lib.Dec.{T}
+use lib.Signed.{shrZ}
+use mir.Syntax.{w64}
+use mir.Val.{toZ, ofZ}
+use Rattle.integers.proofs.Every.{below, below-at, eqZ, eqZ→eq}
+use Rattle.evc.specs.Stages.{rounding}
+use Rattle.blocks.proofs.tail.half.Statement.{statement}
+use Rattle.blocks.proofs.tail.half.Tie as tie
+
+-- the bits of the code's number, as they are read, are the rounding number
+right : ℕ → Bool
+right s = eqZ (toZ w64 (ofZ w64 (shrZ (toZ w64 (1 * 2 ^ s % 2 ^ 64)) 2))) (rounding s)
+
+all-right : T (below right 32)
+unfolding right
+all-right = tt
+
+cast-result : tie.Need-cast-result
+cast-result c = search needs
+
+shl-result : tie.Need-shl-result
+shl-result c = search needs
+
+returns : tie.Need-returns
+unfolding right
+returns c = eqZ→eq _ _ (below-at right 32 all-right (c .args .shift) (omega arith))
+
+pub half-spec : {M : Type 1} → statement M
+half-spec = tie.close (tie.spec cast-result shl-result returns)

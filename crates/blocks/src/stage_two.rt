@@ -1,0 +1,98 @@
+// Stage two of the inverse transform by blocks of 16 lines: its sums are those of stage one, of the inputs' upper halves and of their rests.
+// Document 01, "The two stages".
+// Differs from the Rust in: the sums of 16 lines are made side by side, and by `levels`; the last sum is formed in 64 bits from two of 32; calls
+// that are refused, of a size below 32 or of fewer lines are `itx`'s.
+ghost use mathlib.Core.Path.{_≡_};
+ghost use Prim.Native.Nat.{_*_, _%_, _≤_};
+ghost use lib.ListN.{length};
+ghost use Rattle.integers.specs.Lists.{written};
+ghost use Rattle.evc.specs.Answers.{answerNumber};
+ghost use Rattle.evc.specs.Table.{tm};
+ghost use Rattle.evc.specs.Stages.{stageTwoAt, stageTwoNumber, itxb1Exit};
+ghost use Rattle.itx.specs.Lines.{Rooms};
+ghost use Rattle.blocks.specs.Blocks.{Offsets, Room, Blocked};
+use super::gather::highs;
+use super::gather::lows;
+use super::guard::wide;
+use super::tail::half;
+use super::tail::offsets;
+use super::tail::tail;
+use evc::Answer;
+
+// Lines j0 .. j0 + 15 of l, of size 32.
+fn two32(src: &[i32], c: &[i64], dst: &mut [i16], l: usize, j0: usize, shift: u8)
+    requires { ⌜ Offsets (now c) 32 shift × Room (now src) (now dst) 32 l j0 ⌝ }
+    ensures { λ _. ⌜ Blocked (stageTwoAt (tm 32) 32 l shift (now (src .entry))) (now (dst .entry)) (now (dst .exit)) 32 j0 ⌝ }
+{
+    let mut s = [0i16; 1024];
+    highs(src, &mut s, 32, 32, l, j0);
+    let mut h = [0i32; 512];
+    levels::sums32(&s, &mut h);
+    lows(src, &mut s, 32, 32, l, j0);
+    let mut a = [0i32; 512];
+    levels::sums32(&s, &mut a);
+    tail(&h, &a, c, dst, 32, j0, shift);
+}
+
+// All lines, block after block.
+fn twos32(src: &[i32], dst: &mut [i16], l: usize, shift: u8)
+    requires { ⌜ (shift ≤ 31) × (Rooms (now src) (now dst) 32 l × (l % 16 ≡ 0)) ⌝ }
+    ensures { λ _. ⌜ now (dst .exit) ≡ written (32 * l) (stageTwoAt (tm 32) 32 l shift (now (src .entry))) (now (dst .entry)) ⌝ }
+{
+    let col = table::columns32();
+    let mut c = [0i64; 32];
+    offsets(&col, &mut c, 32, half(shift));
+    let b = l / 16;
+    for i in 0..b {
+        two32(src, &c, dst, l, i * 16, shift);
+    }
+}
+
+// Lines j0 .. j0 + 15 of l, of size 64.
+fn two64(src: &[i32], c: &[i64], dst: &mut [i16], l: usize, j0: usize, shift: u8)
+    requires { ⌜ Offsets (now c) 64 shift × Room (now src) (now dst) 64 l j0 ⌝ }
+    ensures { λ _. ⌜ Blocked (stageTwoAt (tm 64) 64 l shift (now (src .entry))) (now (dst .entry)) (now (dst .exit)) 64 j0 ⌝ }
+{
+    let mut s = [0i16; 1024];
+    highs(src, &mut s, 64, 16, l, j0);
+    let mut h = [0i32; 1024];
+    levels::sums64(&s, &mut h);
+    lows(src, &mut s, 64, 16, l, j0);
+    let mut a = [0i32; 1024];
+    levels::sums64(&s, &mut a);
+    tail(&h, &a, c, dst, 64, j0, shift);
+}
+
+// All lines, block after block.
+fn twos64(src: &[i32], dst: &mut [i16], l: usize, shift: u8)
+    requires { ⌜ (shift ≤ 31) × (Rooms (now src) (now dst) 64 l × (l % 16 ≡ 0)) ⌝ }
+    ensures { λ _. ⌜ now (dst .exit) ≡ written (64 * l) (stageTwoAt (tm 64) 64 l shift (now (src .entry))) (now (dst .entry)) ⌝ }
+{
+    let col = table::columns64();
+    let mut c = [0i64; 64];
+    offsets(&col, &mut c, 64, half(shift));
+    let b = l / 16;
+    for i in 0..b {
+        two64(src, &c, dst, l, i * 16, shift);
+    }
+}
+
+// Stage two of size 2^log2_size on 2^log2_line lines.
+pub fn itxb1(src: &[i32], dst: &mut [i16], log2_size: usize, log2_line: usize, shift: u8) -> Answer
+    ensures answer { λ r. ⌜ answerNumber r ≡ stageTwoNumber (length (now (src .entry))) (length (now (dst .entry))) «log2_size» «log2_line» shift ⌝ }
+    ensures exit { λ _. ⌜ now (dst .exit) ≡ itxb1Exit «log2_size» «log2_line» shift (now (src .entry)) (now (dst .entry)) ⌝ }
+{
+    if 31 < shift {
+        return itx::itxb1(src, dst, log2_size, log2_line, shift);
+    }
+    if wide(5, src.len(), dst.len(), log2_size, log2_line) {
+        let l = 1usize << log2_line;
+        if log2_size == 5 {
+            twos32(src, dst, l, shift);
+        } else {
+            twos64(src, dst, l, shift);
+        }
+        return Answer::Done;
+    }
+    itx::itxb1(src, dst, log2_size, log2_line, shift)
+}
