@@ -1,0 +1,2 @@
+-- The laws of the small sizes.
+pub mod Halves

@@ -1,0 +1,48 @@
+use borrow.Author.Needs.{needs}
+use Rattle.stages.proofs.stage_one.row8.Statement.{statement}
+use Rattle.stages.proofs.stage_one.row8.Tie as tie
+use Rattle.stages.proofs.stage_one.row8.Reads as reads
+use Rattle.stages.proofs.stage_one.row8.Lts as lts
+use Rattle.stages.proofs.narrow.line8.Reads as line8-reads
+use Rattle.stages.proofs.store.store_i32.Reads as store-i32-reads
+use Rattle.table.proofs.table.Reads as table-reads
+
+-- src/stage_one.rt:60:13
+table-requires : tie.Need-table-requires
+table-requires c κs = search needs
+
+-- src/stage_one.rt:61:19
+slice-aggregate-line8 : tie.Need-slice-aggregate-line8
+slice-aggregate-line8 c = search needs
+
+-- src/stage_one.rt:61:13
+line8-requires : tie.Need-line8-requires
+line8-requires c κs = ?
+
+-- src/stage_one.rt:62:15
+slice-aggregate-store-i32 : tie.Need-slice-aggregate-store-i32
+slice-aggregate-store-i32 c = search needs
+
+-- src/stage_one.rt:62:5
+store-i32-requires : tie.Need-store-i32-requires
+store-i32-requires c κs = search needs
+
+-- src/stage_one.rt:56:1
+same-length : tie.Need-same-length
+same-length c = search needs
+
+-- src/stage_one.rt:56:1
+returns : tie.Need-returns
+returns c = ?
+
+pub row8-spec : {M : Type 1} → statement M
+row8-spec =
+    tie.close
+    (tie.spec
+    table-requires
+    slice-aggregate-line8
+    line8-requires
+    slice-aggregate-store-i32
+    store-i32-requires
+    same-length
+    returns)

@@ -1,0 +1,53 @@
+use Rattle.stages.proofs.stage_two.rows2.Statement.{statement}
+use Rattle.stages.proofs.stage_two.rows2.Tie as tie
+use Rattle.stages.proofs.stage_two.rows2.Reads as reads
+use Rattle.stages.proofs.stage_two.rows2.Lts as lts
+use Rattle.stages.proofs.stage_two.row2.Reads as row2-reads
+
+abbrev Inv-loop : tie.InvT-loop
+Inv-loop src dst₀ l add shift j₀ dst j = ?
+
+abbrev μ-loop : tie.MeasureT-loop
+μ-loop src dst₀ l add shift j₀ dst j = ?
+
+-- src/stage_two.rt:34:5
+loop-holds : tie.Need-loop-holds Inv-loop μ-loop
+loop-holds c = ?
+
+-- src/stage_two.rt:35:9
+row2-requires : tie.Need-row2-requires Inv-loop μ-loop
+row2-requires c κs = ?
+
+-- src/stage_two.rt:34:9
+add-j : tie.Need-add-j Inv-loop μ-loop
+add-j c = ?
+
+-- src/stage_two.rt:34:5
+loop-less : tie.Need-loop-less Inv-loop μ-loop
+loop-less c = ?
+
+-- src/stage_two.rt:34:5
+loop-again : tie.Need-loop-again Inv-loop μ-loop
+loop-again c = ?
+
+-- src/stage_two.rt:30:1
+same-length : tie.Need-same-length Inv-loop μ-loop
+same-length c = ?
+
+-- src/stage_two.rt:30:1
+returns : tie.Need-returns Inv-loop μ-loop
+returns c = ?
+
+pub rows2-spec : {M : Type 1} → statement M
+rows2-spec =
+    tie.close
+    (tie.spec
+    Inv-loop
+    μ-loop
+    loop-holds
+    row2-requires
+    add-j
+    loop-less
+    loop-again
+    same-length
+    returns)

@@ -1,0 +1,138 @@
+-- `stages::wide::line4` meets its contract: from the half as large, by the halving step. Assumes nothing.
+use mathlib.Core.Path.{_≡_, refl, subst}
+use mathlib.Core.List.{List, [], _∷_, map}
+use Prim.Native.Nat.{ℕ, zero, suc, _+_, _*_, _-_, _≤_, _<_}
+use native.Mathlib.Omega.{arith}
+use lib.Dec.{lit<}
+use lib.ListN.{length, getD}
+use lib.IntN.{ℤ, pos, _+ℤ_, _-ℤ_, natAbs}
+use mir.Syntax.{w64}
+use mir.Facts.{toZ-ofZ}
+use Rattle.integers.proofs.Expr.{Ex, var, add, sub, loc, Known, small, env, raw, machines, reads, fit}
+use Rattle.itx.specs.Line.{rows}
+use Rattle.stages.specs.Sums.{wide, Odd, Line}
+use Rattle.stages.proofs.Halves.{half-reach, joined}
+use Rattle.stages.proofs.wide.line4.Statement.{statement}
+use Rattle.stages.proofs.wide.line4.Tie as tie
+
+-- the last row and the last input
+last-row : (s : tie.Start) → 3 * s .args .w + 0 < length (s .args .t .now)
+last-row s = s .pre .0 .0 .table 3 0 (omega arith) (omega arith)
+
+last-input : (s : tie.Start) → 3 * s .args .l + s .args .j < length (s .args .x .now)
+last-input s = s .pre .0 .0 .input 3 (omega arith)
+
+module _ (c : tie.After-odd22) where
+  abbrev s : tie.Start
+  s = c .before .before .before
+
+  -- the halves
+  abbrev e : List ℤ
+  e = c .before .before .line2 .result
+
+  even : Line (3 * wide) (rows (s .args .t .now) (s .args .w + s .args .w)) 2 (s .args .l + s .args .l) (s .args .x .now) (s .args .j) (s .args .add) e
+  even =
+      subst (λ (z : ℤ). Line (3 * wide) (rows (s .args .t .now) (s .args .w + s .args .w)) 2 (s .args .l + s .args .l) (s .args .x .now) (s .args .j) z e)
+      (toZ-ofZ (s .fits .add)) (c .before .before .line2 .ensures)
+
+  abbrev o : ℕ → ℤ
+  o n = getD (c .before .odd2 .result ∷ c .odd22 .result ∷ []) n (pos 0)
+
+  odds : (n : ℕ) → n < 2 → Odd (2 * wide) (rows (s .args .t .now) (s .args .w)) 2 (s .args .l) (s .args .x .now) (s .args .j) n (o n)
+  odds zero h = c .before .odd2 .ensures
+  odds (suc zero) h = c .odd22 .ensures
+  odds (suc (suc n)) h = let z : ⊥ = omega arith in absurd z
+
+  -- in expressions: first the places of the one, then of the other
+  abbrev known : ℕ → Known
+  known =
+      env (
+      small w64 (getD e 0 (pos 0)) (3 * wide) (record { bound = even .small 0 (omega arith) }) tt
+      ∷ small w64 (getD e 1 (pos 0)) (3 * wide) (record { bound = even .small 1 (omega arith) }) tt
+      ∷ small w64 (o 0) (2 * wide) (record { bound = odds 0 (omega arith) .small }) tt
+      ∷ small w64 (o 1) (2 * wide) (record { bound = odds 1 (omega arith) .small }) tt
+      ∷ []
+      )
+
+  abbrev low : ℕ → Ex
+  low n = add (var n) (var (2 + n))
+
+  abbrev high : ℕ → Ex
+  high n = sub (var n) (var (2 + n))
+
+  abbrev out : List ℤ
+  out = map (raw (machines known)) (loc w64 (low 0) ∷ loc w64 (low 1) ∷ loc w64 (high 1) ∷ loc w64 (high 0) ∷ [])
+
+  low-is : (n : ℕ) → n < 2 → getD out n (pos 0) ≡ getD e n (pos 0) +ℤ o n
+  low-is zero h = reads known (loc w64 (low 0)) tt
+  low-is (suc zero) h = reads known (loc w64 (low 1)) tt
+  low-is (suc (suc n)) h = let z : ⊥ = omega arith in absurd z
+
+  high-is : (n : ℕ) → n < 2 → getD out (2 + 2 - suc n) (pos 0) ≡ getD e n (pos 0) -ℤ o n
+  high-is zero h = reads known (loc w64 (high 0)) tt
+  high-is (suc zero) h = reads known (loc w64 (high 1)) tt
+  high-is (suc (suc n)) h = let z : ⊥ = omega arith in absurd z
+
+add-line2 : tie.Need-add-line2
+add-line2 c = omega (arith, last-row c)
+
+add-line2-2 : tie.Need-add-line2-2
+add-line2-2 c = omega (arith, last-input c)
+
+line2-requires : tie.Need-line2-requires
+line2-requires c κs = (half-reach 2 (c .pre .0 .0), rw (toZ-ofZ (c .fits .add)) (c .pre .0 .1))
+
+odd2-requires : tie.Need-odd2-requires
+odd2-requires c κs = (c .before .pre .0 .0, omega arith)
+
+odd2-requires-2 : tie.Need-odd2-requires-2
+odd2-requires-2 c κs = (c .before .before .pre .0 .0, omega arith)
+
+array-copy-out-t15 : tie.Need-array-copy-out-t15
+array-copy-out-t15 c = lit< tt
+
+add-t16 : tie.Need-add-t16
+add-t16 c = fit (known (c .before)) w64 (low (c .before) 0) tt
+
+array-copy-out-t19 : tie.Need-array-copy-out-t19
+array-copy-out-t19 c = lit< tt
+
+add-t20 : tie.Need-add-t20
+add-t20 c = fit (known (c .before .before)) w64 (low (c .before .before) 1) tt
+
+array-copy-out-t23 : tie.Need-array-copy-out-t23
+array-copy-out-t23 c = lit< tt
+
+sub-t24 : tie.Need-sub-t24
+sub-t24 c = fit (known (c .before .before .before)) w64 (high (c .before .before .before) 1) tt
+
+array-copy-out-t27 : tie.Need-array-copy-out-t27
+array-copy-out-t27 c = lit< tt
+
+sub-t28 : tie.Need-sub-t28
+sub-t28 c = fit (known (c .before .before .before .before)) w64 (high (c .before .before .before .before) 0) tt
+
+returns : tie.Need-returns
+returns c =
+    let d = c .before .before .before .before in
+    let a = s d .args in
+    joined (3 * wide) (2 * wide) (a .t .now) (a .w) (a .x .now) (a .l) (a .j) 2 (a .add) (e d) (out d) (o d) (s d .pre .1) (omega arith) (even d) (odds d) refl (low-is d) (high-is d)
+
+pub line4-spec : {M : Type 1} → statement M
+line4-spec =
+    tie.close
+    (tie.spec
+    add-line2
+    add-line2-2
+    line2-requires
+    odd2-requires
+    odd2-requires-2
+    array-copy-out-t15
+    add-t16
+    array-copy-out-t19
+    add-t20
+    array-copy-out-t23
+    sub-t24
+    array-copy-out-t27
+    sub-t28
+    returns)
