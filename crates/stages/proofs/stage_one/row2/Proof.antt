@@ -1,39 +1,48 @@
+-- `stages::stage_one::row2` meets its contract: summed with document 01's table, and stored. Assumes nothing.
 use borrow.Author.Needs.{needs}
+use mathlib.Core.Path.{ap}
+use Prim.Native.Nat.{_*_}
+use native.Mathlib.Omega.{arith}
+use lib.IntN.{ℤ, pos, +ℤ-idr}
+use Rattle.integers.specs.Z.{clip32}
+use Rattle.evc.specs.Table.{tm}
+use Rattle.evc.specs.Stages.{stageOneAt}
+use Rattle.itx.specs.Line.{rows}
+use Rattle.itx.proofs.Instance.{own-table, own-same}
+use Rattle.stages.specs.Sums.{narrow}
+use Rattle.stages.proofs.Rows.{reach, rowed}
 use Rattle.stages.proofs.stage_one.row2.Statement.{statement}
 use Rattle.stages.proofs.stage_one.row2.Tie as tie
-use Rattle.stages.proofs.stage_one.row2.Reads as reads
-use Rattle.stages.proofs.stage_one.row2.Lts as lts
-use Rattle.stages.proofs.narrow.line2.Reads as line2-reads
-use Rattle.stages.proofs.store.store_i32.Reads as store-i32-reads
-use Rattle.table.proofs.table.Reads as table-reads
 
--- src/stage_one.rt:24:13
 table-requires : tie.Need-table-requires
 table-requires c κs = search needs
 
--- src/stage_one.rt:25:19
 slice-aggregate-line2 : tie.Need-slice-aggregate-line2
 slice-aggregate-line2 c = search needs
 
--- src/stage_one.rt:25:13
 line2-requires : tie.Need-line2-requires
-line2-requires c κs = ?
+line2-requires c κs =
+    let t = c .before .table in
+    let s = c .before .before in
+    (reach 2048 2 (s .args .l) (s .args .j) (own-table 1 (omega arith) (t .result) (t .ensures)) (s .pre), omega arith)
 
--- src/stage_one.rt:26:15
 slice-aggregate-store-i32 : tie.Need-slice-aggregate-store-i32
 slice-aggregate-store-i32 c = search needs
 
--- src/stage_one.rt:26:5
 store-i32-requires : tie.Need-store-i32-requires
 store-i32-requires c κs = search needs
 
--- src/stage_one.rt:20:1
 same-length : tie.Need-same-length
 same-length c = search needs
 
--- src/stage_one.rt:20:1
 returns : tie.Need-returns
-returns c = ?
+unfolding stageOneAt
+returns c =
+    let d = c .before .before .before .before .before in
+    let t = d .before .table in
+    let s = d .before .before in
+    rowed clip32 clip32 (pos 0) (λ z. ap clip32 (+ℤ-idr z)) (rows (t .result) 2048) (tm 2) (3 * narrow) 2 (s .args .l) (s .args .j)
+    (own-same 1 (omega arith) (t .result) (t .ensures)) (c .before .before .before .before .line2 .ensures) (c .before .store-i32 .ensures)
 
 pub row2-spec : {M : Type 1} → statement M
 row2-spec =

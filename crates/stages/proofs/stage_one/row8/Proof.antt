@@ -1,39 +1,48 @@
+-- `stages::stage_one::row8` meets its contract: summed with document 01's table, and stored. Assumes nothing.
 use borrow.Author.Needs.{needs}
+use mathlib.Core.Path.{ap}
+use Prim.Native.Nat.{_*_}
+use native.Mathlib.Omega.{arith}
+use lib.IntN.{ℤ, pos, +ℤ-idr}
+use Rattle.integers.specs.Z.{clip32}
+use Rattle.evc.specs.Table.{tm}
+use Rattle.evc.specs.Stages.{stageOneAt}
+use Rattle.itx.specs.Line.{rows}
+use Rattle.itx.proofs.Instance.{own-table, own-same}
+use Rattle.stages.specs.Sums.{narrow}
+use Rattle.stages.proofs.Rows.{reach, rowed}
 use Rattle.stages.proofs.stage_one.row8.Statement.{statement}
 use Rattle.stages.proofs.stage_one.row8.Tie as tie
-use Rattle.stages.proofs.stage_one.row8.Reads as reads
-use Rattle.stages.proofs.stage_one.row8.Lts as lts
-use Rattle.stages.proofs.narrow.line8.Reads as line8-reads
-use Rattle.stages.proofs.store.store_i32.Reads as store-i32-reads
-use Rattle.table.proofs.table.Reads as table-reads
 
--- src/stage_one.rt:60:13
 table-requires : tie.Need-table-requires
 table-requires c κs = search needs
 
--- src/stage_one.rt:61:19
 slice-aggregate-line8 : tie.Need-slice-aggregate-line8
 slice-aggregate-line8 c = search needs
 
--- src/stage_one.rt:61:13
 line8-requires : tie.Need-line8-requires
-line8-requires c κs = ?
+line8-requires c κs =
+    let t = c .before .table in
+    let s = c .before .before in
+    ((reach 512 8 (s .args .l) (s .args .j) (own-table 3 (omega arith) (t .result) (t .ensures)) (s .pre), omega arith), (own-table 3 (omega arith) (t .result) (t .ensures) .mirrored, own-table 2 (omega arith) (t .result) (t .ensures) .mirrored))
 
--- src/stage_one.rt:62:15
 slice-aggregate-store-i32 : tie.Need-slice-aggregate-store-i32
 slice-aggregate-store-i32 c = search needs
 
--- src/stage_one.rt:62:5
 store-i32-requires : tie.Need-store-i32-requires
 store-i32-requires c κs = search needs
 
--- src/stage_one.rt:56:1
 same-length : tie.Need-same-length
 same-length c = search needs
 
--- src/stage_one.rt:56:1
 returns : tie.Need-returns
-returns c = ?
+unfolding stageOneAt
+returns c =
+    let d = c .before .before .before .before .before in
+    let t = d .before .table in
+    let s = d .before .before in
+    rowed clip32 clip32 (pos 0) (λ z. ap clip32 (+ℤ-idr z)) (rows (t .result) 512) (tm 8) (9 * narrow) 8 (s .args .l) (s .args .j)
+    (own-same 3 (omega arith) (t .result) (t .ensures)) (c .before .before .before .before .line8 .ensures) (c .before .store-i32 .ensures)
 
 pub row8-spec : {M : Type 1} → statement M
 row8-spec =

@@ -1,39 +1,58 @@
+-- `stages::stage_two::row8` meets its contract: summed with document 01's table, and stored. Assumes nothing.
 use borrow.Author.Needs.{needs}
+use mathlib.Core.Path.{sym, ap, subst}
+use Prim.Native.Nat.{_*_, _≤_}
+use native.Mathlib.Omega.{arith}
+use native.Mathlib.Nat.{le-trans}
+use lib.IntN.{ℤ, _+ℤ_, natAbs}
+use mir.Facts.{toZ-ofZ}
+use Rattle.integers.specs.Z.{clip16, floorPow}
+use Rattle.evc.specs.Table.{tm}
+use Rattle.evc.specs.Stages.{rounding, stageTwoAt}
+use Rattle.itx.specs.Line.{rows}
+use Rattle.itx.proofs.Instance.{own-table, own-same}
+use Rattle.itx.proofs.Lines.{rounding-within}
+use Rattle.stages.specs.Sums.{wide, Line}
+use Rattle.stages.proofs.Rows.{reach, rowed}
 use Rattle.stages.proofs.stage_two.row8.Statement.{statement}
 use Rattle.stages.proofs.stage_two.row8.Tie as tie
-use Rattle.stages.proofs.stage_two.row8.Reads as reads
-use Rattle.stages.proofs.stage_two.row8.Lts as lts
-use Rattle.stages.proofs.store.store_i16.Reads as store-i16-reads
-use Rattle.stages.proofs.wide.line8.Reads as line8-reads
-use Rattle.table.proofs.table.Reads as table-reads
 
--- src/stage_two.rt:61:13
+small : (s : tie.Start) → natAbs (s .args .add) ≤ wide
+small s = rw (s .pre .0 .is) (le-trans (rounding-within (s .args .shift) (s .pre .0 .most) .bound) (omega arith))
+
 table-requires : tie.Need-table-requires
 table-requires c κs = search needs
 
--- src/stage_two.rt:62:19
 slice-aggregate-line8 : tie.Need-slice-aggregate-line8
 slice-aggregate-line8 c = search needs
 
--- src/stage_two.rt:62:13
 line8-requires : tie.Need-line8-requires
-line8-requires c κs = ?
+line8-requires c κs =
+    let t = c .before .table in
+    let s = c .before .before in
+    ((reach 512 8 (s .args .l) (s .args .j) (own-table 3 (omega arith) (t .result) (t .ensures)) (s .pre .1), rw (toZ-ofZ (s .fits .add)) (small s)), (own-table 3 (omega arith) (t .result) (t .ensures) .mirrored, own-table 2 (omega arith) (t .result) (t .ensures) .mirrored))
 
--- src/stage_two.rt:63:15
 slice-aggregate-store-i16 : tie.Need-slice-aggregate-store-i16
 slice-aggregate-store-i16 c = search needs
 
--- src/stage_two.rt:63:5
 store-i16-requires : tie.Need-store-i16-requires
 store-i16-requires c κs = search needs
 
--- src/stage_two.rt:57:1
 same-length : tie.Need-same-length
 same-length c = search needs
 
--- src/stage_two.rt:57:1
 returns : tie.Need-returns
-returns c = ?
+unfolding stageTwoAt
+returns c =
+    let d = c .before .before .before .before .before in
+    let t = d .before .table in
+    let s = d .before .before in
+    let a = s .args in
+    rowed (λ z. clip16 (floorPow z (a .shift))) (λ z. clip16 (floorPow (z +ℤ rounding (a .shift)) (a .shift))) (a .add)
+    (λ z. ap (λ (r : ℤ). clip16 (floorPow (z +ℤ r) (a .shift))) (s .pre .0 .is)) (rows (t .result) 512) (tm 8) (9 * wide) 8 (a .l) (a .j)
+    (own-same 3 (omega arith) (t .result) (t .ensures))
+    (subst (λ (z : ℤ). Line (9 * wide) (rows (t .result) 512) 8 (a .l) (a .src .now) (a .j) z (c .before .before .before .before .line8 .result)) (toZ-ofZ (s .fits .add)) (c .before .before .before .before .line8 .ensures))
+    (c .before .store-i16 .ensures)
 
 pub row8-spec : {M : Type 1} → statement M
 row8-spec =
