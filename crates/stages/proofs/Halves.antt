@@ -8,16 +8,15 @@ use native.Mathlib.Omega.{arith}
 use native.Mathlib.Nat.{mul-add, add-mul, mul-one}
 use native.Mathlib.Decide.{decLt}
 use lib.ListN.{length, getD}
-use lib.IntN.{ℤ, pos, _+ℤ_, _-ℤ_, _*ℤ_, natAbs, +ℤ-idl, +ℤ-assoc, +ℤ-comm}
+use lib.IntN.{ℤ, pos, _+ℤ_, _-ℤ_, _*ℤ_, natAbs, +ℤ-idl, +ℤ-assoc}
 use Rattle.integers.specs.Sum.{ofZ+, sum}
-use Rattle.integers.proofs.Dif.{of, difs, dif-eq}
-use Rattle.integers.proofs.Bound.{Within, within-add, within-sub}
+use Rattle.integers.proofs.Bound.{within-add, within-sub}
 use Rattle.integers.proofs.Sum.{sum-ext}
 use Rattle.evc.specs.Stages.{product}
 use Rattle.table.specs.Mirror.{Mirrored}
 use Rattle.itx.specs.Line.{rows, dot, odd}
 use Rattle.itx.proofs.Halving.{split, mirrored, whole}
-use Rattle.stages.specs.Sums.{Reach, Odd, Line}
+use Rattle.stages.specs.Sums.{Reach, Product, Odd, Line}
 
 -- the even rows or inputs, at twice the stride
 twice : (k w : ℕ) → k * (w + w) ≡ k * 2 * w
@@ -51,16 +50,9 @@ module _ (t : List ℤ) (w : ℕ) (x : List ℤ) (l j : ℕ) where
     high-is g s h =
         direct (m + m) (m + m - suc n) ∙ mirrored (rows t w) 1 m line g (mul-one (m + m)) s n h ∙ ap (λ (z : ℤ). z -ℤ O) (sym (evens m n))
 
--- what is added to the one half is added to both sums
-sum-moves : (e o c : ℤ) → e +ℤ c +ℤ o ≡ e +ℤ o +ℤ c
-sum-moves e o c = rw (of e, of o, of c) (simp difs (dif-eq _ _ _ _ (omega arith)))
-
-dif-moves : (e o c : ℤ) → e +ℤ c -ℤ o ≡ e -ℤ o +ℤ c
-dif-moves e o c = rw (of e, of o, of c) (simp difs (dif-eq _ _ _ _ (omega arith)))
-
 -- the step from size m to 2m
-pub joined : (B C : ℕ) (t : List ℤ) (w : ℕ) (x : List ℤ) (l j m : ℕ) (add : ℤ) (e r : List ℤ) (o : ℕ → ℤ) → Mirrored (m + m) (rows t w) → 2 ≤ m → Line B (rows t (w + w)) m (l + l) x j add e → ((n : ℕ) → n < m → Odd C (rows t w) m l x j n (o n)) → length r ≡ m + m → ((n : ℕ) → n < m → getD r n (pos 0) ≡ getD e n (pos 0) +ℤ o n) → ((n : ℕ) → n < m → getD r (m + m - suc n) (pos 0) ≡ getD e n (pos 0) -ℤ o n) → Line (B + C) (rows t w) (m + m) l x j add r
-joined B C t w x l j m add e r o g s even odds long low high =
+pub joined : (B C : ℕ) (t : List ℤ) (w : ℕ) (x : List ℤ) (l j m : ℕ) (e r : List ℤ) (o : ℕ → ℤ) → Mirrored (m + m) (rows t w) → 2 ≤ m → Line B (rows t (w + w)) m (l + l) x j e → ((n : ℕ) → n < m → Odd C (rows t w) m l x j n (o n)) → length r ≡ m + m → ((n : ℕ) → n < m → getD r n (pos 0) ≡ getD e n (pos 0) +ℤ o n) → ((n : ℕ) → n < m → getD r (m + m - suc n) (pos 0) ≡ getD e n (pos 0) -ℤ o n) → Line (B + C) (rows t w) (m + m) l x j r
+joined B C t w x l j m e r o g s even odds long low high =
     record {
       long = long;
       at = λ n h. at n h (decLt n m);
@@ -68,17 +60,17 @@ joined B C t w x l j m add e r o g s even odds long low high =
     }
   where
     Right : ℕ → Type 0
-    Right n = (getD r n (pos 0) ≡ product (rows t w) (m + m) l x j n +ℤ add) × (natAbs (getD r n (pos 0)) ≤ B + C)
+    Right n = (getD r n (pos 0) ≡ product (rows t w) (m + m) l x j n) × (natAbs (getD r n (pos 0)) ≤ B + C)
 
     first : (n : ℕ) → n < m → Right n
     first n h = (
-      low n h ∙ ap₂ _+ℤ_ (even .at n h) (odds n h .is) ∙ sum-moves (E t w x l j m n) (O t w x l j m n) add ∙ ap (λ (z : ℤ). z +ℤ add) (sym (low-is t w x l j m n)),
+      low n h ∙ ap₂ _+ℤ_ (even .at n h) (odds n h .is) ∙ sym (low-is t w x l j m n),
       rw (low n h) (within-add {x = getD e n (pos 0)} {y = o n} (record { bound = even .small n h }) (record { bound = odds n h .small }) .bound),
     )
 
     mirror : (n : ℕ) → n < m → Right (m + m - suc n)
     mirror n h = (
-      high n h ∙ ap₂ _-ℤ_ (even .at n h) (odds n h .is) ∙ dif-moves (E t w x l j m n) (O t w x l j m n) add ∙ ap (λ (z : ℤ). z +ℤ add) (sym (high-is t w x l j m n g s h)),
+      high n h ∙ ap₂ _-ℤ_ (even .at n h) (odds n h .is) ∙ sym (high-is t w x l j m n g s h),
       rw (high n h) (within-sub {x = getD e n (pos 0)} {y = o n} (record { bound = even .small n h }) (record { bound = odds n h .small }) .bound),
     )
 
@@ -86,7 +78,7 @@ joined B C t w x l j m add e r o g s even odds long low high =
     right n h (yes p) = first n p
     right n h (no f) = let i : m + m - suc (m + m - suc n) ≡ n = omega arith in subst Right i (mirror (m + m - suc n) (omega arith))
 
-    at : (n : ℕ) → n < m + m → Dec (n < m) → getD r n (pos 0) ≡ product (rows t w) (m + m) l x j n +ℤ add
+    at : (n : ℕ) → n < m + m → Dec (n < m) → getD r n (pos 0) ≡ product (rows t w) (m + m) l x j n
     at n h d = right n h d .0
 
     small : (n : ℕ) → n < m + m → Dec (n < m) → natAbs (getD r n (pos 0)) ≤ B + C
@@ -101,16 +93,16 @@ half-reach {w = w} {l = l} m g = record {
 
 -- ---- the shares and the size 2, written out
 module _ (T : ℕ → ℕ → ℤ) (n : ℕ) (x : ℕ → ℤ) where
-  pub odd-two : T 1 n *ℤ x 1 +ℤ T 3 n *ℤ x 3 ≡ odd T 1 2 n x
+  pub odd-two : {A : ℕ} {a b : ℤ} → Product A (T 1 n) (x 1) a → Product A (T 3 n) (x 3) b → a +ℤ b ≡ odd T 1 2 n x
   unfolding odd sum
-  odd-two = ap (λ (z : ℤ). z +ℤ T 3 n *ℤ x 3) (sym (+ℤ-idl (T 1 n *ℤ x 1)))
+  odd-two p q = ap₂ _+ℤ_ (p .is ∙ sym (+ℤ-idl (T 1 n *ℤ x 1))) (q .is)
 
-  pub odd-four : (T 1 n *ℤ x 1 +ℤ T 3 n *ℤ x 3) +ℤ (T 5 n *ℤ x 5 +ℤ T 7 n *ℤ x 7) ≡ odd T 1 4 n x
+  pub odd-four : {A : ℕ} {a b c d : ℤ} → Product A (T 1 n) (x 1) a → Product A (T 3 n) (x 3) b → Product A (T 5 n) (x 5) c → Product A (T 7 n) (x 7) d → a +ℤ b +ℤ (c +ℤ d) ≡ odd T 1 4 n x
   unfolding odd sum
-  odd-four =
-      sym (+ℤ-assoc (T 1 n *ℤ x 1 +ℤ T 3 n *ℤ x 3) (T 5 n *ℤ x 5) (T 7 n *ℤ x 7))
-      ∙ ap (λ (z : ℤ). z +ℤ T 3 n *ℤ x 3 +ℤ T 5 n *ℤ x 5 +ℤ T 7 n *ℤ x 7) (sym (+ℤ-idl (T 1 n *ℤ x 1)))
+  odd-four {A} {a} {b} {c} {d} p q r s =
+      sym (+ℤ-assoc (a +ℤ b) c d)
+      ∙ ap₂ _+ℤ_ (ap₂ _+ℤ_ (ap₂ _+ℤ_ (p .is ∙ sym (+ℤ-idl (T 1 n *ℤ x 1))) (q .is)) (r .is)) (s .is)
 
-pub two : (T : ℕ → ℕ → ℤ) (l : ℕ) (x : List ℤ) (j n : ℕ) → T 0 n *ℤ rows x l 0 j +ℤ T 1 n *ℤ rows x l 1 j ≡ product T 2 l x j n
+pub two : (T : ℕ → ℕ → ℤ) (l : ℕ) (x : List ℤ) (j n : ℕ) {A : ℕ} {a b : ℤ} → Product A (T 0 n) (rows x l 0 j) a → Product A (T 1 n) (rows x l 1 j) b → a +ℤ b ≡ product T 2 l x j n
 unfolding product sum
-two T l x j n = ap (λ (z : ℤ). z +ℤ T 1 n *ℤ rows x l 1 j) (sym (+ℤ-idl (T 0 n *ℤ rows x l 0 j)))
+two T l x j n p q = ap₂ _+ℤ_ (p .is ∙ sym (+ℤ-idl (T 0 n *ℤ rows x l 0 j))) (q .is)

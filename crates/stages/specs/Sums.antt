@@ -2,9 +2,9 @@
 -- of line j of l stands in x at k·l + j, as row k of a table stands in t at k·w. Document 01, "The two stages". Assumes nothing.
 use mathlib.Core.Path.{_≡_}
 use mathlib.Core.List.{List}
-use Prim.Native.Nat.{ℕ, _+_, _*_, _^_, _<_, _≤_}
+use Prim.Native.Nat.{ℕ, _+_, _*_, _<_, _≤_}
 use lib.ListN.{length, getD}
-use lib.IntN.{ℤ, pos, _+ℤ_, _*ℤ_, natAbs}
+use lib.IntN.{ℤ, pos, _*ℤ_, natAbs}
 use Rattle.evc.specs.Tests.{samplesOf}
 use Rattle.evc.specs.Stages.{product}
 use Rattle.itx.specs.Line.{rows, odd}
@@ -31,10 +31,10 @@ pub record Odd (B : ℕ) (T : ℕ → ℕ → ℤ) (m l : ℕ) (x : List ℤ) (j
   pub is : r ≡ odd T 1 m n (λ k. rows x l k j)
   pub small : natAbs r ≤ B
 
--- r holds the N sums of line j, with add added to each, at most B in size
-pub record Line (B : ℕ) (T : ℕ → ℕ → ℤ) (N l : ℕ) (x : List ℤ) (j : ℕ) (add : ℤ) (r : List ℤ) : Type 0 where
+-- r holds the N sums of line j, at most B in size
+pub record Line (B : ℕ) (T : ℕ → ℕ → ℤ) (N l : ℕ) (x : List ℤ) (j : ℕ) (r : List ℤ) : Type 0 where
   pub long : length r ≡ N
-  pub at : (n : ℕ) → n < N → getD r n (pos 0) ≡ product T N l x j n +ℤ add
+  pub at : (n : ℕ) → n < N → getD r n (pos 0) ≡ product T N l x j n
   pub small : (n : ℕ) → n < N → natAbs (getD r n (pos 0)) ≤ B
 
 -- a call on n inputs and m outputs has size 2, 4 or 8, and breaks no test

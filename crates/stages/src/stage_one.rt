@@ -22,7 +22,7 @@ fn row2(src: &[i16], dst: &mut [i32], l: usize, j: usize)
     ensures { λ _. ⌜ Lined (stageOneAt (tm 2) 2 l (now (src .entry))) (now (dst .entry)) (now (dst .exit)) 2 j ⌝ }
 {
     let t = table::table();
-    let y = line2(&t, 2048, src, l, j, 0);
+    let y = line2(&t, 2048, src, l, j);
     store_i32(&y, dst, 2, j);
 }
 
@@ -40,7 +40,7 @@ fn row4(src: &[i16], dst: &mut [i32], l: usize, j: usize)
     ensures { λ _. ⌜ Lined (stageOneAt (tm 4) 4 l (now (src .entry))) (now (dst .entry)) (now (dst .exit)) 4 j ⌝ }
 {
     let t = table::table();
-    let y = line4(&t, 1024, src, l, j, 0);
+    let y = line4(&t, 1024, src, l, j);
     store_i32(&y, dst, 4, j);
 }
 
@@ -58,7 +58,7 @@ fn row8(src: &[i16], dst: &mut [i32], l: usize, j: usize)
     ensures { λ _. ⌜ Lined (stageOneAt (tm 8) 8 l (now (src .entry))) (now (dst .entry)) (now (dst .exit)) 8 j ⌝ }
 {
     let t = table::table();
-    let y = line8(&t, 512, src, l, j, 0);
+    let y = line8(&t, 512, src, l, j);
     store_i32(&y, dst, 8, j);
 }
 

@@ -23,8 +23,8 @@ fn row2(src: &[i32], dst: &mut [i16], l: usize, j: usize, add: i64, shift: u8)
     ensures { λ _. ⌜ Lined (stageTwoAt (tm 2) 2 l shift (now (src .entry))) (now (dst .entry)) (now (dst .exit)) 2 j ⌝ }
 {
     let t = table::table();
-    let y = line2(&t, 2048, src, l, j, add);
-    store_i16(&y, dst, 2, j, shift);
+    let y = line2(&t, 2048, src, l, j);
+    store_i16(&y, dst, 2, j, add, shift);
 }
 
 fn rows2(src: &[i32], dst: &mut [i16], l: usize, add: i64, shift: u8)
@@ -41,8 +41,8 @@ fn row4(src: &[i32], dst: &mut [i16], l: usize, j: usize, add: i64, shift: u8)
     ensures { λ _. ⌜ Lined (stageTwoAt (tm 4) 4 l shift (now (src .entry))) (now (dst .entry)) (now (dst .exit)) 4 j ⌝ }
 {
     let t = table::table();
-    let y = line4(&t, 1024, src, l, j, add);
-    store_i16(&y, dst, 4, j, shift);
+    let y = line4(&t, 1024, src, l, j);
+    store_i16(&y, dst, 4, j, add, shift);
 }
 
 fn rows4(src: &[i32], dst: &mut [i16], l: usize, add: i64, shift: u8)
@@ -59,8 +59,8 @@ fn row8(src: &[i32], dst: &mut [i16], l: usize, j: usize, add: i64, shift: u8)
     ensures { λ _. ⌜ Lined (stageTwoAt (tm 8) 8 l shift (now (src .entry))) (now (dst .entry)) (now (dst .exit)) 8 j ⌝ }
 {
     let t = table::table();
-    let y = line8(&t, 512, src, l, j, add);
-    store_i16(&y, dst, 8, j, shift);
+    let y = line8(&t, 512, src, l, j);
+    store_i16(&y, dst, 8, j, add, shift);
 }
 
 fn rows8(src: &[i32], dst: &mut [i16], l: usize, add: i64, shift: u8)

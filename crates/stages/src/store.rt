@@ -3,10 +3,10 @@
 ghost use mathlib.Core.Path.{_≡_};
 ghost use Prim.Native.Nat.{_+_, _*_, _≤_};
 ghost use lib.ListN.{length, getD};
-ghost use lib.IntN.{pos};
-ghost use Rattle.integers.specs.Z.{clip16, clip32, floorPow};
+ghost use lib.IntN.{pos, natAbs};
+ghost use Rattle.integers.specs.Z.{clip32};
 ghost use Rattle.evc.specs.Stages as stages;
-ghost use Rattle.itx.specs.Lines.{Next};
+ghost use Rattle.itx.specs.Lines.{shifted, Amount, Bounded, Next};
 
 // Stage one: clipped to 32 bits.
 pub(crate) fn store_i32(y: &[i32], dst: &mut [i32], n: usize, j: usize)
@@ -29,12 +29,20 @@ pub(crate) fn rounding(shift: u8) -> i64
     1i64 << (shift - 1)
 }
 
-// Stage two: divided by 2^shift toward minus infinity, and clipped to 16 bits.
-pub(crate) fn store_i16(y: &[i64], dst: &mut [i16], n: usize, j: usize, shift: u8)
-    requires { ⌜ (shift ≤ 31) × ((n ≤ length (now y)) × (j * n + n ≤ length (now dst))) ⌝ }
-    ensures { λ _. ⌜ Next (now (dst .entry)) (now (dst .exit)) (j * n) n (λ k. clip16 (floorPow (getD (now (y .entry)) k (pos 0)) shift)) ⌝ }
+// A sum of stage two, rounded, divided by 2^shift toward minus infinity, and clipped to 16 bits.
+fn rounded(v: i64, add: i64, shift: u8) -> i16
+    requires { ⌜ Amount add shift × (natAbs v ≤ 17592186044416) ⌝ }
+    ensures { λ r. ⌜ r ≡ shifted shift v ⌝ }
+{
+    integers::clip16((v + add) >> shift)
+}
+
+// Stage two.
+pub(crate) fn store_i16(y: &[i64], dst: &mut [i16], n: usize, j: usize, add: i64, shift: u8)
+    requires { ⌜ (Amount add shift × Bounded (now y) n) × ((n ≤ length (now y)) × (j * n + n ≤ length (now dst))) ⌝ }
+    ensures { λ _. ⌜ Next (now (dst .entry)) (now (dst .exit)) (j * n) n (λ k. shifted shift (getD (now (y .entry)) k (pos 0))) ⌝ }
 {
     for k in 0..n {
-        dst[j * n + k] = integers::clip16(y[k] >> shift);
+        dst[j * n + k] = rounded(y[k], add, shift);
     }
 }

@@ -1,15 +1,15 @@
 -- `stages::narrow::odd4` meets its contract: four products, written out. Assumes nothing.
-use mathlib.Core.Path.{sym, ap₂, _∙_, subst}
+use mathlib.Core.Path.{sym, _∙_, subst}
 use mathlib.Core.List.{[], _∷_}
 use Prim.Native.Nat.{ℕ, _+_, _*_, _≤_, _<_}
 use native.Mathlib.Omega.{arith}
 use lib.ListN.{length}
-use lib.IntN.{ℤ, _+ℤ_, natAbs}
+use lib.IntN.{ℤ, natAbs}
 use mir.Syntax.{w32}
 use Rattle.integers.proofs.Expr.{Ex, var, add, loc, Known, small, env, within, reads, fit}
 use Rattle.itx.specs.Line.{rows}
 use Rattle.stages.specs.Sums.{narrow, Product}
-use Rattle.stages.proofs.Halves.{line, odd-four}
+use Rattle.stages.proofs.Halves.{odd-four}
 use Rattle.stages.proofs.narrow.odd4.Statement.{statement}
 use Rattle.stages.proofs.narrow.odd4.Tie as tie
 
@@ -63,7 +63,7 @@ returns c =
     let a = c .before .before .before .before .args in
     let e = reads (known c) (loc w32 total) tt in
     record {
-      is = e ∙ ap₂ _+ℤ_ (ap₂ _+ℤ_ (c .before .before .before .term .ensures .is) (c .before .before .term2 .ensures .is)) (ap₂ _+ℤ_ (c .before .term3 .ensures .is) (c .term4 .ensures .is)) ∙ odd-four (rows (a .t .now) (a .w)) (a .n) (line (a .t .now) (a .w) (a .x .now) (a .l) (a .j));
+      is = e ∙ odd-four (rows (a .t .now) (a .w)) (a .n) (λ k. rows (a .x .now) (a .l) k (a .j)) (c .before .before .before .term .ensures) (c .before .before .term2 .ensures) (c .before .term3 .ensures) (c .term4 .ensures);
       small = subst (λ (z : ℤ). natAbs z ≤ 4 * narrow) (sym e) (within (known c) total .bound);
     }
 

@@ -1,9 +1,7 @@
 -- `stages::stage_one::row2` meets its contract: summed with document 01's table, and stored. Assumes nothing.
 use borrow.Author.Needs.{needs}
-use mathlib.Core.Path.{ap}
 use Prim.Native.Nat.{_*_}
 use native.Mathlib.Omega.{arith}
-use lib.IntN.{ℤ, pos, +ℤ-idr}
 use Rattle.integers.specs.Z.{clip32}
 use Rattle.evc.specs.Table.{tm}
 use Rattle.evc.specs.Stages.{stageOneAt}
@@ -24,7 +22,7 @@ line2-requires : tie.Need-line2-requires
 line2-requires c κs =
     let t = c .before .table in
     let s = c .before .before in
-    (reach 2048 2 (s .args .l) (s .args .j) (own-table 1 (omega arith) (t .result) (t .ensures)) (s .pre), omega arith)
+    reach 2048 2 (s .args .l) (s .args .j) (own-table 1 (omega arith) (t .result) (t .ensures)) (s .pre)
 
 slice-aggregate-store-i32 : tie.Need-slice-aggregate-store-i32
 slice-aggregate-store-i32 c = search needs
@@ -41,7 +39,7 @@ returns c =
     let d = c .before .before .before .before .before in
     let t = d .before .table in
     let s = d .before .before in
-    rowed clip32 clip32 (pos 0) (λ z. ap clip32 (+ℤ-idr z)) (rows (t .result) 2048) (tm 2) (3 * narrow) 2 (s .args .l) (s .args .j)
+    rowed clip32 (rows (t .result) 2048) (tm 2) (2 * narrow) 2 (s .args .l) (s .args .j)
     (own-same 1 (omega arith) (t .result) (t .ensures)) (c .before .before .before .before .line2 .ensures) (c .before .store-i32 .ensures)
 
 pub row2-spec : {M : Type 1} → statement M

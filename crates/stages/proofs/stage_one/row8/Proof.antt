@@ -1,9 +1,7 @@
 -- `stages::stage_one::row8` meets its contract: summed with document 01's table, and stored. Assumes nothing.
 use borrow.Author.Needs.{needs}
-use mathlib.Core.Path.{ap}
 use Prim.Native.Nat.{_*_}
 use native.Mathlib.Omega.{arith}
-use lib.IntN.{ℤ, pos, +ℤ-idr}
 use Rattle.integers.specs.Z.{clip32}
 use Rattle.evc.specs.Table.{tm}
 use Rattle.evc.specs.Stages.{stageOneAt}
@@ -24,7 +22,7 @@ line8-requires : tie.Need-line8-requires
 line8-requires c κs =
     let t = c .before .table in
     let s = c .before .before in
-    ((reach 512 8 (s .args .l) (s .args .j) (own-table 3 (omega arith) (t .result) (t .ensures)) (s .pre), omega arith), (own-table 3 (omega arith) (t .result) (t .ensures) .mirrored, own-table 2 (omega arith) (t .result) (t .ensures) .mirrored))
+    (reach 512 8 (s .args .l) (s .args .j) (own-table 3 (omega arith) (t .result) (t .ensures)) (s .pre), (own-table 3 (omega arith) (t .result) (t .ensures) .mirrored, own-table 2 (omega arith) (t .result) (t .ensures) .mirrored))
 
 slice-aggregate-store-i32 : tie.Need-slice-aggregate-store-i32
 slice-aggregate-store-i32 c = search needs
@@ -41,7 +39,7 @@ returns c =
     let d = c .before .before .before .before .before in
     let t = d .before .table in
     let s = d .before .before in
-    rowed clip32 clip32 (pos 0) (λ z. ap clip32 (+ℤ-idr z)) (rows (t .result) 512) (tm 8) (9 * narrow) 8 (s .args .l) (s .args .j)
+    rowed clip32 (rows (t .result) 512) (tm 8) (8 * narrow) 8 (s .args .l) (s .args .j)
     (own-same 3 (omega arith) (t .result) (t .ensures)) (c .before .before .before .before .line8 .ensures) (c .before .store-i32 .ensures)
 
 pub row8-spec : {M : Type 1} → statement M

@@ -1,24 +1,17 @@
 -- `stages::stage_two::row2` meets its contract: summed with document 01's table, and stored. Assumes nothing.
 use borrow.Author.Needs.{needs}
-use mathlib.Core.Path.{sym, ap, subst}
-use Prim.Native.Nat.{_*_, _≤_}
+use Prim.Native.Nat.{_*_}
 use native.Mathlib.Omega.{arith}
-use native.Mathlib.Nat.{le-trans}
-use lib.IntN.{ℤ, _+ℤ_, natAbs}
 use mir.Facts.{toZ-ofZ}
-use Rattle.integers.specs.Z.{clip16, floorPow}
 use Rattle.evc.specs.Table.{tm}
-use Rattle.evc.specs.Stages.{rounding, stageTwoAt}
+use Rattle.evc.specs.Stages.{stageTwoAt}
 use Rattle.itx.specs.Line.{rows}
+use Rattle.itx.specs.Lines.{shifted, Bounded}
 use Rattle.itx.proofs.Instance.{own-table, own-same}
-use Rattle.itx.proofs.Lines.{rounding-within}
-use Rattle.stages.specs.Sums.{wide, Line}
-use Rattle.stages.proofs.Rows.{reach, rowed}
+use Rattle.stages.specs.Sums.{wide}
+use Rattle.stages.proofs.Rows.{reach, rowed, bounded}
 use Rattle.stages.proofs.stage_two.row2.Statement.{statement}
 use Rattle.stages.proofs.stage_two.row2.Tie as tie
-
-small : (s : tie.Start) → natAbs (s .args .add) ≤ wide
-small s = rw (s .pre .0 .is) (le-trans (rounding-within (s .args .shift) (s .pre .0 .most) .bound) (omega arith))
 
 table-requires : tie.Need-table-requires
 table-requires c κs = search needs
@@ -30,13 +23,16 @@ line2-requires : tie.Need-line2-requires
 line2-requires c κs =
     let t = c .before .table in
     let s = c .before .before in
-    (reach 2048 2 (s .args .l) (s .args .j) (own-table 1 (omega arith) (t .result) (t .ensures)) (s .pre .1), rw (toZ-ofZ (s .fits .add)) (small s))
+    reach 2048 2 (s .args .l) (s .args .j) (own-table 1 (omega arith) (t .result) (t .ensures)) (s .pre .1)
 
 slice-aggregate-store-i16 : tie.Need-slice-aggregate-store-i16
 slice-aggregate-store-i16 c = search needs
 
 store-i16-requires : tie.Need-store-i16-requires
-store-i16-requires c κs = search needs
+store-i16-requires c κs =
+    let y = c .before .before in
+    let s = y .before .before .before in
+    ((rw (toZ-ofZ (s .fits .add)) (s .pre .0), bounded (y .line2 .ensures) (omega arith)), (omega (arith, y .line2 .ensures .long), s .pre .1 .dst-room))
 
 same-length : tie.Need-same-length
 same-length c = search needs
@@ -47,12 +43,8 @@ returns c =
     let d = c .before .before .before .before .before in
     let t = d .before .table in
     let s = d .before .before in
-    let a = s .args in
-    rowed (λ z. clip16 (floorPow z (a .shift))) (λ z. clip16 (floorPow (z +ℤ rounding (a .shift)) (a .shift))) (a .add)
-    (λ z. ap (λ (r : ℤ). clip16 (floorPow (z +ℤ r) (a .shift))) (s .pre .0 .is)) (rows (t .result) 2048) (tm 2) (3 * wide) 2 (a .l) (a .j)
-    (own-same 1 (omega arith) (t .result) (t .ensures))
-    (subst (λ (z : ℤ). Line (3 * wide) (rows (t .result) 2048) 2 (a .l) (a .src .now) (a .j) z (c .before .before .before .before .line2 .result)) (toZ-ofZ (s .fits .add)) (c .before .before .before .before .line2 .ensures))
-    (c .before .store-i16 .ensures)
+    rowed (shifted (s .args .shift)) (rows (t .result) 2048) (tm 2) (2 * wide) 2 (s .args .l) (s .args .j)
+    (own-same 1 (omega arith) (t .result) (t .ensures)) (c .before .before .before .before .line2 .ensures) (c .before .store-i16 .ensures)
 
 pub row2-spec : {M : Type 1} → statement M
 row2-spec =

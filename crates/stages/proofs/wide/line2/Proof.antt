@@ -1,10 +1,10 @@
 -- `stages::wide::line2` meets its contract: four products, written out. Assumes nothing.
-use mathlib.Core.Path.{_≡_, refl, sym, ap, ap₂, _∙_, subst}
+use mathlib.Core.Path.{_≡_, refl, sym, _∙_, subst}
 use mathlib.Core.List.{List, [], _∷_, map}
 use Prim.Native.Nat.{ℕ, zero, suc, _+_, _*_, _≤_, _<_}
 use native.Mathlib.Omega.{arith}
 use lib.ListN.{length, getD}
-use lib.IntN.{ℤ, pos, _+ℤ_, natAbs}
+use lib.IntN.{ℤ, pos, natAbs}
 use mir.Syntax.{w64}
 use Rattle.integers.proofs.Expr.{Ex, var, add, loc, Known, small, env, raw, machines, within, reads, fit}
 use Rattle.evc.specs.Stages.{product}
@@ -16,7 +16,7 @@ use Rattle.stages.proofs.wide.line2.Tie as tie
 
 -- where column n of row k and input k stand
 inside : (s : tie.Start) (k n : ℕ) → k < 2 → n < 2 → (k * s .args .w + n < length (s .args .t .now)) × (k * s .args .l + s .args .j < length (s .args .x .now))
-inside s k n h r = (s .pre .0 .table k n h r, s .pre .0 .input k h)
+inside s k n h r = (s .pre .table k n h r, s .pre .input k h)
 
 -- a product in an expression
 abbrev one : {a b : ℤ} (r : ℤ) → Product wide a b r → Known
@@ -36,15 +36,14 @@ module _ (c : tie.After-term4) where
       ∷ one (c .before .before .term2 .result) (c .before .before .term2 .ensures)
       ∷ one (c .before .term3 .result) (c .before .term3 .ensures)
       ∷ one (c .term4 .result) (c .term4 .ensures)
-      ∷ small w64 (s .args .add) wide (record { bound = s .pre .1 }) tt
       ∷ []
       )
 
   abbrev e0 : Ex
-  e0 = add (loc w64 (add (var 0) (var 1))) (var 4)
+  e0 = add (var 0) (var 1)
 
   abbrev e1 : Ex
-  e1 = add (loc w64 (add (var 2) (var 3))) (var 4)
+  e1 = add (var 2) (var 3)
 
   abbrev out : List ℤ
   out = map (raw (machines known)) (loc w64 e0 ∷ loc w64 e1 ∷ [])
@@ -52,20 +51,18 @@ module _ (c : tie.After-term4) where
   abbrev sums : ℕ → ℤ
   sums n = product (rows (s .args .t .now) (s .args .w)) 2 (s .args .l) (s .args .x .now) (s .args .j) n
 
-  at : (n : ℕ) → n < 2 → getD out n (pos 0) ≡ sums n +ℤ s .args .add
+  at : (n : ℕ) → n < 2 → getD out n (pos 0) ≡ sums n
   at zero h =
       reads known (loc w64 e0) tt
-      ∙ ap (λ (z : ℤ). z +ℤ s .args .add)
-      (ap₂ _+ℤ_ (c .before .before .before .term .ensures .is) (c .before .before .term2 .ensures .is) ∙ two (rows (s .args .t .now) (s .args .w)) (s .args .l) (s .args .x .now) (s .args .j) 0)
+      ∙ two (rows (s .args .t .now) (s .args .w)) (s .args .l) (s .args .x .now) (s .args .j) 0 (c .before .before .before .term .ensures) (c .before .before .term2 .ensures)
   at (suc zero) h =
       reads known (loc w64 e1) tt
-      ∙ ap (λ (z : ℤ). z +ℤ s .args .add)
-      (ap₂ _+ℤ_ (c .before .term3 .ensures .is) (c .term4 .ensures .is) ∙ two (rows (s .args .t .now) (s .args .w)) (s .args .l) (s .args .x .now) (s .args .j) 1)
+      ∙ two (rows (s .args .t .now) (s .args .w)) (s .args .l) (s .args .x .now) (s .args .j) 1 (c .before .term3 .ensures) (c .term4 .ensures)
   at (suc (suc n)) h = let z : ⊥ = omega arith in absurd z
 
-  within-out : (n : ℕ) → n < 2 → natAbs (getD out n (pos 0)) ≤ 3 * wide
-  within-out zero h = subst (λ (z : ℤ). natAbs z ≤ 3 * wide) (sym (reads known (loc w64 e0) tt)) (within known e0 .bound)
-  within-out (suc zero) h = subst (λ (z : ℤ). natAbs z ≤ 3 * wide) (sym (reads known (loc w64 e1) tt)) (within known e1 .bound)
+  within-out : (n : ℕ) → n < 2 → natAbs (getD out n (pos 0)) ≤ 2 * wide
+  within-out zero h = subst (λ (z : ℤ). natAbs z ≤ 2 * wide) (sym (reads known (loc w64 e0) tt)) (within known e0 .bound)
+  within-out (suc zero) h = subst (λ (z : ℤ). natAbs z ≤ 2 * wide) (sym (reads known (loc w64 e1) tt)) (within known e1 .bound)
   within-out (suc (suc n)) h = let z : ⊥ = omega arith in absurd z
 
 term-requires : tie.Need-term-requires
@@ -86,12 +83,6 @@ term-requires-4 c κs = inside (c .before .before .before) 1 1 (omega arith) (om
 add-b : tie.Need-add-b
 add-b c = fit (known c) w64 (add (var 2) (var 3)) tt
 
-add-t9 : tie.Need-add-t9
-add-t9 c = fit (known c) w64 (e0 c) tt
-
-add-t10 : tie.Need-add-t10
-add-t10 c = fit (known c) w64 (e1 c) tt
-
 returns : tie.Need-returns
 returns c = record { long = refl; at = at c; small = within-out c }
 
@@ -105,6 +96,4 @@ line2-spec =
     term-requires-3
     term-requires-4
     add-b
-    add-t9
-    add-t10
     returns)

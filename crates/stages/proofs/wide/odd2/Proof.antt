@@ -1,15 +1,15 @@
 -- `stages::wide::odd2` meets its contract: two products, written out. Assumes nothing.
-use mathlib.Core.Path.{sym, ap₂, _∙_, subst}
+use mathlib.Core.Path.{sym, _∙_, subst}
 use mathlib.Core.List.{[], _∷_}
 use Prim.Native.Nat.{ℕ, _+_, _*_, _≤_, _<_}
 use native.Mathlib.Omega.{arith}
 use lib.ListN.{length}
-use lib.IntN.{ℤ, _+ℤ_, natAbs}
+use lib.IntN.{ℤ, natAbs}
 use mir.Syntax.{w64}
 use Rattle.integers.proofs.Expr.{Ex, var, add, loc, Known, small, env, within, reads, fit}
 use Rattle.itx.specs.Line.{rows}
 use Rattle.stages.specs.Sums.{wide, Product}
-use Rattle.stages.proofs.Halves.{line, odd-two}
+use Rattle.stages.proofs.Halves.{odd-two}
 use Rattle.stages.proofs.wide.odd2.Statement.{statement}
 use Rattle.stages.proofs.wide.odd2.Tie as tie
 
@@ -46,7 +46,7 @@ returns c =
     let a = c .before .before .args in
     let e = reads (known c) (loc w64 total) tt in
     record {
-      is = e ∙ ap₂ _+ℤ_ (c .before .term .ensures .is) (c .term2 .ensures .is) ∙ odd-two (rows (a .t .now) (a .w)) (a .n) (line (a .t .now) (a .w) (a .x .now) (a .l) (a .j));
+      is = e ∙ odd-two (rows (a .t .now) (a .w)) (a .n) (λ k. rows (a .x .now) (a .l) k (a .j)) (c .before .term .ensures) (c .term2 .ensures);
       small = subst (λ (z : ℤ). natAbs z ≤ 2 * wide) (sym e) (within (known c) total .bound);
     }
 
