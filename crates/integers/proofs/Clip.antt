@@ -1,21 +1,29 @@
 -- Laws of `minZ`, `maxZ` and `clip`: by what their tests say, as code leaves them; by facts of order; the range; a clip as a minimum of a
--- maximum, as fast code clips; and that a clip to a type's range changes nothing where the number fits. Assumes nothing.
+-- maximum, as fast code clips; that a clip to a type's range changes nothing where the number fits; and a clip to 32 bits by what is left of a
+-- number after 31 bits are shifted out. Assumes nothing.
 use mathlib.Core.Path.{_≡_, refl, sym, ap, _∙_}
+use mathlib.Core.Logic.{_≢_}
 use mathlib.Core.Bool.{Bool, true, false}
+use Prim.Native.Nat.{ℕ, _/_, _<_, _≤_, _^_}
 use native.Mathlib.Omega.{arith}
+use native.Mathlib.Decide.{decLt}
 use lib.Dec.{T}
 use lib.IntN.{ℤ, pos, negsuc}
-use lib.Signed.{_≤ℤ_, ltZ, ltZ-yes, leZ-yes, ≤ℤ-refl, clashℤ}
+use lib.Signed.{_≤ℤ_, _<ℤ_, ltZ, ltZ-yes, leZ-yes, ≤ℤ-refl, clashℤ, mag, shrZ}
 use mir.Syntax.{Width, w16, w32}
 use mir.Val.{SFits}
 use mir.Facts.{sfits-lit}
 use Rattle.integers.specs.Z.{minZ, maxZ, clip, clip16, clip32}
 use Rattle.integers.proofs.Bits.{lt-held, lt-failed}
-use Rattle.integers.proofs.Order.{nat-≤, sfits-parts, between-sfits, ≤ℤ-antisym, <ℤ-≤ℤ}
+use Rattle.integers.proofs.Order.{nat-≤, nat-<, <-nat, sfits-parts, between-sfits, ≤ℤ-antisym, <ℤ-≤ℤ}
 
 is-false : (b : Bool) → (T b → ⊥) → b ≡ false
 is-false true h = absurd (h tt)
 is-false false h = refl
+
+is-true : (b : Bool) → T b → b ≡ true
+is-true true h = refl
+is-true false h = absurd h
 
 -- a test of order that fails
 not-lt : (x y : ℤ) → y ≤ℤ x → ltZ x y ≡ false
@@ -92,3 +100,38 @@ clip16-id z h = let p = sfits-parts h in clip-id (negsuc 32767) (pos 32767) z (n
 
 pub clip32-id : (z : ℤ) → SFits w32 z → clip32 z ≡ z
 clip32-id z h = let p = sfits-parts h in clip-id (negsuc 2147483647) (pos 2147483647) z (nat-≤ (omega arith)) (nat-≤ (omega arith))
+
+-- ---- after 31 bits are shifted out 0 or -1 is left, exactly where 32 bits hold the number
+abbrev pub top : ℤ → ℤ
+top z = shrZ z (2 ^ 31)
+
+pub top-fits : (z : ℤ) → mag (top z) ≡ 0 → SFits w32 z
+top-fits (pos a) e = record { sfits = omega arith }
+top-fits (negsuc a) e = record { sfits = omega arith }
+
+top-wide : (z : ℤ) → top z ≢ pos 0 → top z ≢ negsuc 0 → 2147483648 ≤ mag z
+top-wide (pos a) f g = by (decLt a 2147483648)
+  where
+    by : Dec (a < 2147483648) → 2147483648 ≤ a
+    by (yes h) = let e : a / 2147483648 ≡ 0 = omega arith in absurd (f (ap pos e))
+    by (no h) = omega arith
+top-wide (negsuc a) f g = by (decLt a 2147483648)
+  where
+    by : Dec (a < 2147483648) → 2147483648 ≤ a
+    by (yes h) = let e : a / 2147483648 ≡ 0 = omega arith in absurd (g (ap negsuc e))
+    by (no h) = omega arith
+
+module _ (z : ℤ) (f : top z ≢ pos 0) (g : top z ≢ negsuc 0) where
+  pub top-low : z <ℤ pos 0 → negsuc 2147483647 ≡ clip32 z
+  top-low h = at z (top-wide z f g) h
+    where
+      at : (z : ℤ) → 2147483648 ≤ mag z → z <ℤ pos 0 → negsuc 2147483647 ≡ clip32 z
+      at (pos a) m h = let z : ⊥ = omega (arith, <-nat h) in absurd z
+      at (negsuc a) m h = clip-lo (negsuc 2147483647) (pos 2147483647) (negsuc a) (is-true _ (nat-< {x = negsuc a} {y = negsuc 2147483647} (omega arith) .lt))
+
+  pub top-high : pos 0 ≤ℤ z → pos 2147483647 ≡ clip32 z
+  top-high h = at z (top-wide z f g) h
+    where
+      at : (z : ℤ) → 2147483648 ≤ mag z → pos 0 ≤ℤ z → pos 2147483647 ≡ clip32 z
+      at (pos a) m h = clip-hi (negsuc 2147483647) (pos 2147483647) (pos a) refl (is-true _ (nat-< {x = pos 2147483647} {y = pos a} (omega arith) .lt))
+      at (negsuc a) m h = absurd (h .le)

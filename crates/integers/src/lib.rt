@@ -1,5 +1,5 @@
-// Laws of whole numbers, sums and lists (specs/, proofs/), and the total helpers that every kernel uses. Each is written as a choice of two
-// values, with no early return: compilers turn such a loop into vector code.
+// Laws of whole numbers, sums and lists (specs/, proofs/), and the total helpers that every kernel uses. Each is a choice of values and
+// computes nothing else on the way: compilers turn a loop of such calls into vector code.
 ghost use mathlib.Core.Path.{_≡_};
 ghost use lib.IntN.{natAbs};
 ghost use Rattle.integers.specs.Z as Z;
@@ -25,11 +25,21 @@ pub fn clip16(x: i64) -> i16
     min_i64(32767, max_i64(-32768, x)) as i16
 }
 
-// The nearest number that an i32 holds.
+// The nearest number that an i32 holds. Tests of equality and of the sign: the older vector units compare no 64-bit numbers by order.
 pub fn clip32(x: i64) -> i32
     ensures { λ r. ⌜ r ≡ Z.clip32 x ⌝ }
 {
-    min_i64(2147483647, max_i64(-2147483648, x)) as i32
+    let h = x >> 31;
+    if h == 0 {
+        return x as i32;
+    }
+    if h == -1 {
+        return x as i32;
+    }
+    if x < 0 {
+        return -2147483648;
+    }
+    2147483647
 }
 
 // The absolute value, which a u32 holds at every i32.

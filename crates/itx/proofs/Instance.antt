@@ -101,8 +101,11 @@ module _ (l : ℕ) (h : l ≤ 6) (t : List ℤ) (is : t ≡ flat) where
   pub own-table : Table t (64 * 2 ^ (6 - l)) (2 ^ l)
   own-table = rw is (flat-table (2 ^ l) (2 ^ (6 - l)) (sizes .0) (sizes .1) (pow-pos (6 - l)) (pow-pos l) (tm-mirrored l h))
 
+  pub own-same : Same (2 ^ l) (rows t (64 * 2 ^ (6 - l))) (tm (2 ^ l))
+  own-same = rw is (flat-same (2 ^ l) (2 ^ (6 - l)) (sizes .0) (sizes .1) (pow-pos (6 - l)) (pow-pos l))
+
   pub own-sums : {e x : List ℤ} → Sums e (rows t (64 * 2 ^ (6 - l))) 1 (2 ^ l) x → Sums e (tm (2 ^ l)) 1 (2 ^ l) x
-  own-sums s = sums-ext (rw is (flat-same (2 ^ l) (2 ^ (6 - l)) (sizes .0) (sizes .1) (pow-pos (6 - l)) (pow-pos l))) s
+  own-sums s = sums-ext own-same s
 
 -- a sum of stage two has room for its rounding number
 pub own-bounded : (N : ℕ) {e x : List ℤ} → Inputs x N → Sums e (tm N) 1 N x → Bounded e N

@@ -1,38 +1,66 @@
--- `integers::clip32` meets its contract: a clip is the minimum of a maximum, and what is clipped fits. Assumes nothing.
-use borrow.Author.Needs.{needs}
-use mathlib.Core.Path.{_≡_, sym, ap, _∙_, subst}
-use lib.IntN.{pos, negsuc}
-use lib.Signed.{leZ-yes}
+-- `integers::clip32` meets its contract: each return by the tests that led there. Assumes nothing.
+use mathlib.Core.Path.{_≡_, sym, ap, _∙_}
+use mathlib.Core.Logic.{_≢_}
+use Prim.Native.Nat.{ℕ, _^_}
+use lib.IntN.{ℤ, pos, negsuc}
+use lib.Signed.{shrZ, mag}
 use mir.Syntax.{w32, w64}
-use mir.Val.{SFits}
-use mir.Facts.{toZ-ofZ}
-use Rattle.integers.specs.Z.{minZ, clip32}
-use Rattle.integers.proofs.Bits.{back}
-use Rattle.integers.proofs.Clip.{clip-minmax, clip32-fits}
+use mir.Val.{SFits, toZ, ofZ}
+use mir.Facts.{toZ-ofZ, sfits-lit}
+use Rattle.integers.proofs.Bits.{lt-held, lt-failed}
+use Rattle.integers.proofs.Bound.{sfits-shr}
+use Rattle.integers.specs.Z.{clip32}
+use Rattle.integers.proofs.Clip.{clip32-id, top, top-fits, top-low, top-high}
 use Rattle.integers.proofs.clip32.Statement.{statement}
 use Rattle.integers.proofs.clip32.Tie as tie
 
-max-i64-requires : tie.Need-max-i64-requires
-max-i64-requires c κs = search needs
+-- what the tests read: the bits of the number shifted, and the number
+module _ (x : ℤ) (f : SFits w64 x) where
+  abbrev read : ℕ
+  read = ofZ w64 (shrZ (toZ w64 (ofZ w64 x)) (2 ^ 31))
 
-min-i64-requires : tie.Need-min-i64-requires
-min-i64-requires c κs = search needs
+  shifted : read ≡ ofZ w64 (top x)
+  shifted = ap (λ (z : ℤ). ofZ w64 (shrZ z (2 ^ 31))) (toZ-ofZ f)
 
-clipped : (c : tie.After-min-i64) → c .min-i64 .result ≡ clip32 (c .before .before .args .x)
-clipped c =
-    let f = c .before .before .fits .x in
-    let g : SFits w64 (c .before .max-i64 .result) = record { sfits = c .before .max-i64 .ok } in
-    simp toZ-ofZ at (c .min-i64 .ensures) ∙ ap (minZ (pos 2147483647)) (simp toZ-ofZ at (c .before .max-i64 .ensures))
-    ∙ clip-minmax (negsuc 2147483647) (pos 2147483647) (c .before .before .args .x) (leZ-yes tt)
+  held : (z : ℤ) → read ≡ ofZ w64 z → SFits w64 z → top x ≡ z
+  held z e g = sym (toZ-ofZ (sfits-shr (2 ^ 31) f)) ∙ ap (toZ w64) (sym shifted ∙ e) ∙ toZ-ofZ g
 
-fits : (c : tie.After-min-i64) → SFits w32 (c .min-i64 .result)
-fits c = subst (SFits w32) (sym (clipped c)) (clip32-fits (c .before .before .args .x))
+  failed : (z : ℤ) → read ≢ ofZ w64 z → top x ≢ z
+  failed z h e = h (shifted ∙ ap (ofZ w64) e)
+
+  -- where it fits
+  kept : SFits w32 x → toZ w32 (ofZ w32 (toZ w64 (ofZ w64 x))) ≡ clip32 x
+  kept g = ap (λ (z : ℤ). toZ w32 (ofZ w32 z)) (toZ-ofZ f) ∙ toZ-ofZ g ∙ sym (clip32-id x g)
+
+fits-1 : (c : tie.Then1) → SFits w32 (c .before .args .x)
+fits-1 c = top-fits _ (ap mag (held (c .before .args .x) (c .before .fits .x) (pos 0) (c .if1 .taken) (sfits-lit tt)))
+
+fits-2 : (c : tie.Then2) → SFits w32 (c .before .before .args .x)
+fits-2 c = top-fits _ (ap mag (held (c .before .before .args .x) (c .before .before .fits .x) (negsuc 0) (c .if2 .taken) (sfits-lit tt)))
 
 cast-result : tie.Need-cast-result
-cast-result c = rw (back w64 (c .min-i64 .result) (c .min-i64 .ok)) (fits c)
+cast-result c = rw (toZ-ofZ (c .before .fits .x)) (fits-1 c)
 
 returns : tie.Need-returns
-returns c = rw (back w64 (c .min-i64 .result) (c .min-i64 .ok)) (toZ-ofZ (fits c) ∙ clipped c)
+returns c = kept (c .before .args .x) (c .before .fits .x) (fits-1 c)
+
+cast-result-2 : tie.Need-cast-result-2
+cast-result-2 c = rw (toZ-ofZ (c .before .before .fits .x)) (fits-2 c)
+
+returns-2 : tie.Need-returns-2
+returns-2 c = kept (c .before .before .args .x) (c .before .before .fits .x) (fits-2 c)
+
+returns-3 : tie.Need-returns-3
+returns-3 c =
+    let s = c .before .before .before in
+    let f = s .fits .x in
+    top-low (s .args .x) (failed _ f (pos 0) (c .before .before .if1 .left)) (failed _ f (negsuc 0) (c .before .if2 .left)) (lt-held _ _ (simp toZ-ofZ at (c .if3 .taken)))
+
+returns-4 : tie.Need-returns-4
+returns-4 c =
+    let s = c .before .before .before in
+    let f = s .fits .x in
+    top-high (s .args .x) (failed _ f (pos 0) (c .before .before .if1 .left)) (failed _ f (negsuc 0) (c .before .if2 .left)) (lt-failed _ _ (simp toZ-ofZ at (c .if3 .left)))
 
 pub clip32-spec : {M : Type 1} → statement M
-clip32-spec = tie.close (tie.spec max-i64-requires min-i64-requires cast-result returns)
+clip32-spec = tie.close (tie.spec cast-result returns cast-result-2 returns-2 returns-3 returns-4)
