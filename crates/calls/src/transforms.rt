@@ -58,7 +58,7 @@ pub(crate) fn itxb0(
     if !is_good(end) {
         return Said { used, end };
     }
-    let a = itx::itxb0(&src[0..i], &mut dst[0..k], logs.x, logs.y);
+    let a = stages::itxb0(&src[0..i], &mut dst[0..k], logs.x, logs.y);
     let used = answer::with_words(out, used, a, &dst[0..k]);
     Said { used, end }
 }
@@ -81,7 +81,7 @@ pub(crate) fn itxb1(
     if !is_good(end) {
         return Said { used, end };
     }
-    let a = itx::itxb1(&src[0..i], &mut dst[0..k], logs.x, logs.y, shift.value);
+    let a = stages::itxb1(&src[0..i], &mut dst[0..k], logs.x, logs.y, shift.value);
     let used = answer::with_shorts(out, used, a, &dst[0..k]);
     Said { used, end }
 }

@@ -38,8 +38,8 @@ fn steps(part: &mut [i16], between: &mut [i32], job: Job)
         job.offset,
         job.dqshift,
     );
-    itx::itxb0(&part[..], &mut between[..], job.logh, job.logw);
-    itx::itxb1(&between[..], &mut part[..], job.logw, job.logh, job.itshift);
+    stages::itxb0(&part[..], &mut between[..], job.logh, job.logw);
+    stages::itxb1(&between[..], &mut part[..], job.logw, job.logh, job.itshift);
 }
 
 // The block between the stages is the job's own: of the smallest of three sizes that is enough.

@@ -85,5 +85,5 @@ pub fn itxb0(src: &[i16], dst: &mut [i32], log2_size: usize, log2_line: usize) -
         }
         return Answer::Done;
     }
-    itx::itxb0(src, dst, log2_size, log2_line)
+    blocks::itxb0(src, dst, log2_size, log2_line)
 }

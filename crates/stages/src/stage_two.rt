@@ -87,5 +87,5 @@ pub fn itxb1(src: &[i32], dst: &mut [i16], log2_size: usize, log2_line: usize, s
         }
         return Answer::Done;
     }
-    itx::itxb1(src, dst, log2_size, log2_line, shift)
+    blocks::itxb1(src, dst, log2_size, log2_line, shift)
 }
