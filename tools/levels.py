@@ -9,7 +9,7 @@ import sys
 from pathlib import Path
 
 CRATE = Path(__file__).resolve().parent.parent / "crates" / "levels"
-SIZES = (8,)
+SIZES = (8, 16, 32)
 NAMES = "abcd"
 
 
@@ -66,16 +66,16 @@ def code(m):
     return "\n".join(out)
 
 
-def proof(module, name, does, uses, body, needs):
-    """A proof file: what the function does, its imports, definitions and needs (name, its argument's rest, answer)."""
+def proof(module, name, does, uses, body, needs, loop=""):
+    """A proof file: what the function does, its imports, definitions and needs (name, its argument's rest, answer), and its loop, if any."""
     here = f"Rattle.levels.proofs.{module}.{name}"
     out = [f"-- `levels::{module}::{name}` meets its contract: {does} Written by tools/levels.py.", "-- Assumes nothing.", *uses]
     out += [f"use {here}.Statement.{{statement}}", f"use {here}.Tie as tie", "", *body]
     for need, rest, answer in needs:
-        out += [f"{need} : tie.Need-{need}", f"{need} c{rest} = {answer}", ""]
+        out += [f"{need} : tie.Need-{need}{loop}", f"{need} c{rest} = {answer}", ""]
     spec = name.replace("_", "-") + "-spec"
     out += [f"pub {spec} : {{M : Type 1}} → statement M", f"{spec} =", "    tie.close", "    (tie.spec"]
-    out += [f"    {need}" for need, _, _ in needs]
+    out += [f"    {name}" for name in loop.split()] + [f"    {need}" for need, _, _ in needs]
     out[-1] += ")"
     return "\n".join(out) + "\n"
 
@@ -228,23 +228,113 @@ def lane(m, g):
         now = stored(i) - 1
         before = f"c{back(now - stored(i - 1))} .{called('put', i)} .ensures .lane" if i else f"c{back(now)} .pre .1"
         needs.append((nth("put-requires", i + 1), " κs", f"record {{ lane = {before}; place = lit< tt; odd = {read(called('dot8', parts * (i + 1)))} }}"))
-    end = parts + each * 8
-    put = lambda i: f"c{back(end - stored(i))} .{called('put', i + 1)} .ensures"
-    kept = f"{put(7)} .kept"
-    for i in reversed(range(7)):
-        kept = f"kept-then ({put(i)} .kept) ({kept})"
-    needs.append(("same-length", "", f"{kept} .long"))
-    needs.append(("returns", "", f"record {{ lane = {put(7)} .lane; kept = {kept} }}"))
+    needs += ends(8, parts + each * 8, stored)
     return proof(f"level{m}", name, f"places {g} to {g + 7}, one after the other.", uses, [], needs)
 
 
+def terms(m):
+    """The places of a lane from size m, 2 or 4, on: as above, with no pick, and a term for each number."""
+    each = m + 3
+    stored = lambda i: each * i + 2 + m
+    read = lambda thing: f"back w32 _ (c .{thing} .ok) ∙ c .{thing} .ensures"
+    uses = [
+        "use mathlib.Core.Path.{_∙_}",
+        "use lib.Dec.{lit<, lit≤}",
+        "use mir.Syntax.{w32}",
+        "use Rattle.integers.proofs.Bits.{back}",
+        "use Rattle.levels.proofs.AsLine.{kept-then}",
+        "use Rattle.levels.proofs.Steps.{half-none}",
+    ]
+    needs = []
+    for i in range(m):
+        for r in range(m):
+            now = each * i + 1 + r
+            k = m * i + r + 1
+            s = f"c{back(now)}"
+            so_far = read(called("term", k - 1)) if r else "half-none _ _ _ _"
+            inside = f"record {{ some = lit< tt; rows = lit≤ tt; column = lit< tt; among = {s} .pre .1 .among }}"
+            needs.append((nth("term-requires", k), " κs", f"record {{ table = {s} .pre .0; narrow = {s} .pre .1 .level .narrow; inside = {inside}; so-far = {so_far} }}"))
+        now = stored(i) - 1
+        before = f"c{back(now - stored(i - 1))} .{called('put', i)} .ensures .lane" if i else f"c{back(now)} .pre .1"
+        needs.append((nth("put-requires", i + 1), " κs", f"record {{ lane = {before}; place = lit< tt; odd = {read(called('term', m * (i + 1)))} }}"))
+    needs += ends(m, each * m, stored)
+    return proof("base", f"lane{2 * m}", f"{m} places, one after the other.", uses, [], needs)
+
+
+def ends(places, end, stored):
+    """Where a lane ends: the last store's promise, and that no store touched another lane."""
+    put = lambda i: f"c{back(end - stored(i))} .{called('put', i + 1)} .ensures"
+    kept = f"{put(places - 1)} .kept"
+    for i in reversed(range(places - 1)):
+        kept = f"kept-then ({put(i)} .kept) ({kept})"
+    return [("same-length", "", f"{kept} .long"), ("returns", "", f"record {{ lane = {put(places - 1)} .lane; kept = {kept} }}")]
+
+
+def rows(m, g):
+    """The loop over the lanes. It binds the table, the loop, its test, the loans of table and e, the call, and the loan's end."""
+    name, call = f"rows{m}_{g}", f"lane{m}-{g}"
+    uses = [
+        "use Prim.Native.Nat.{_-_}",
+        "use native.Mathlib.Omega.{arith}",
+        "use Rattle.levels.proofs.Passes.{Places, Passed, passed-none, passed-more, next-lane, passed-all}",
+    ]
+    body = [
+        "abbrev Inv-loop : tie.InvT-loop",
+        f"Inv-loop s e₀ t j₀ e j = Passed (Places s {m} {g}) (Places s {m} {g + 8}) e₀ e j",
+        "",
+        "abbrev μ-loop : tie.MeasureT-loop",
+        "μ-loop s e₀ t j₀ e j = 16 - j",
+        "",
+    ]
+    needs = [
+        ("table-requires", " κs", "tt"),
+        ("loop-holds", "", "passed-none (c .before .pre .part)"),
+        (f"{call}-requires", " κs", f"(c{back(4)} .table .ensures, next-lane (c{back(5)} .pre .level) (c{back(3)} .loop .inv) (c{back(2)} .loop-test .taken))"),
+        ("add-j", "", "omega arith"),
+        ("loop-less", "", "omega arith"),
+        ("loop-again", "", f"passed-more (c{back(5)} .loop .inv) (c{back(4)} .loop-test .taken) (c .before .{call} .ensures .kept) (c .before .{call} .ensures .lane .part)"),
+        ("same-length", "", "c .before .loop .inv .long"),
+        ("returns", "", f"passed-all (c{back(3)} .pre .level) (c .before .loop .inv) (c .loop-test .left)"),
+    ]
+    return proof(f"level{m}", name, "lane after lane.", uses, body, needs, " Inv-loop μ-loop")
+
+
+def level(m):
+    """The passes of a level. Each binds the loan of e, the call, and the loan's end."""
+    uses = [
+        "use mathlib.Core.Path.{refl, _∙_}",
+        "use lib.Dec.{lit≤}",
+        "use Rattle.itx.proofs.Step.{none, all}",
+    ]
+    calls = [f"rows{m}-{g}" for g in range(0, m, 8)]
+    needs = [
+        (
+            f"{calls[0]}-requires",
+            " κs",
+            "let s = c .before in record { level = record { narrow = s .pre .0 .narrow; whole = refl; size = lit≤ tt; room = s .pre .1 }; part = λ j h. none (s .pre .0 .sums j h) }",
+        )
+    ]
+    needs += [(f"{calls[i]}-requires", " κs", f"c .before .before .{calls[i - 1]} .ensures") for i in range(1, len(calls))]
+    kept = f"c .before .{calls[-1]} .kept .1 .0"
+    for i in reversed(range(len(calls) - 1)):
+        kept += f" ∙ c{back(3 * (len(calls) - 1 - i) + 1)} .{calls[i]} .kept .1 .0"
+    needs.append(("same-length", "", kept))
+    last = f"c .before .{calls[-1]} .ensures"
+    needs.append(("returns", "", f"record {{ narrow = {last} .level .narrow; sums = λ j h. all ({last} .part j h) }}"))
+    return proof(f"level{m}", f"level{m}", "eight places after eight.", uses, [], needs)
+
+
 def files():
+    for m in (2, 4):
+        yield CRATE / "proofs" / "base" / f"lane{2 * m}" / "Proof.antt", terms(m)
     yield CRATE / "proofs" / "lanes" / "pick" / "Proof.antt", pick()
     yield CRATE / "proofs" / "lanes" / "dot8" / "Proof.antt", dot8()
     for m in SIZES:
         yield CRATE / "src" / f"level{m}.rt", code(m)
         for g in range(0, m, 8):
             yield CRATE / "proofs" / f"level{m}" / f"lane{m}_{g}" / "Proof.antt", lane(m, g)
+            yield CRATE / "proofs" / f"level{m}" / f"rows{m}_{g}" / "Proof.antt", rows(m, g)
+        yield CRATE / "proofs" / f"level{m}" / f"level{m}" / "Proof.antt", level(m)
 
 
 def main():

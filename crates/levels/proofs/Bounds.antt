@@ -3,10 +3,12 @@ use mathlib.Core.Path.{_≡_, sym, subst}
 use mathlib.Core.List.{List}
 use Prim.Native.Nat.{ℕ, zero, suc, _+_, _*_, _/_, _<_, _≤_}
 use native.Mathlib.Omega.{arith}
-use native.Mathlib.Nat.{mul-zero, mul-le-mul-left, le-trans}
-use lib.IntN.{ℤ, _*ℤ_}
+use native.Mathlib.Nat.{zero-add, mul-zero, mul-le-mul-left, le-trans}
+use lib.ListN.{getD}
+use lib.IntN.{ℤ, pos, _*ℤ_}
 use Rattle.integers.proofs.Bound.{Within, within-mul, within-mono}
 use Rattle.integers.proofs.Sum.{within-sum}
+use Rattle.table.specs.Flat.{flat}
 use Rattle.table.proofs.Rule.{entry, tm64-within}
 use Rattle.itx.specs.Line.{line, dot, odd}
 use Rattle.itx.proofs.Bounds.{multiple, odd-multiple}
@@ -19,6 +21,10 @@ term = 2949120
 
 pub entry-within : (k n : ℕ) → k < 64 → n < 64 → Within 90 (T k n)
 entry-within k n hk hn = subst (Within 90) (sym (entry k n hk hn)) (record { bound = tm64-within k n })
+
+-- at the place of the first row where the code reads it
+pub top-within : (n : ℕ) → n < 64 → Within 90 (getD flat n (pos 0))
+top-within n h = subst (λ (i : ℕ). Within 90 (getD flat i (pos 0))) (zero-add n) (entry-within 0 n (omega arith) h)
 
 module _ {s : List ℤ} {j : ℕ} (g : Narrow s) (hj : j < 16) where
   pub input-within : (k : ℕ) → k < 64 → Within 32768 (line (laneList s j) k)

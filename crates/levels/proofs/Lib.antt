@@ -6,3 +6,5 @@ pub mod AsLine
 pub mod Bounds
 -- what the helpers' steps give
 pub mod Steps
+-- a pass over the lanes, and where the last one ends
+pub mod Passes

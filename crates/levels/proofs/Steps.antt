@@ -3,9 +3,10 @@ use mathlib.Core.Path.{_≡_, refl, sym, ap, ap₂, _∙_, subst}
 use mathlib.Core.List.{List, [], _∷_}
 use Prim.Native.Nat.{ℕ, zero, suc, _+_, _*_, _-_, _/_, _<_, _≤_}
 use native.Mathlib.Omega.{arith}
-use native.Mathlib.Nat.{add-zero, mul-le-mul-right, le-trans}
+use native.Mathlib.Nat.{add-zero, zero-add, mul-le-mul-right, le-trans}
 use lib.Dec.{T as T′, ltb, ltb→lt}
 use lib.ListN.{length, getD, set, length-set}
+use lib.Seq.{getD-set-same, getD-set-other}
 use lib.IntN.{ℤ, pos, _+ℤ_, _-ℤ_, _*ℤ_}
 use Rattle.integers.specs.Sum.{ofZ+}
 use Rattle.integers.proofs.Bound.{Within, within-mono}
@@ -13,7 +14,7 @@ use Rattle.integers.proofs.Sum.{sum-none}
 use Rattle.table.specs.Flat.{flat}
 use Rattle.itx.specs.Line.{line, rows, dot, odd, Inputs, Table, Level, Sums, Part}
 use Rattle.itx.proofs.Bounds.{odd-step, odd-multiple}
-use Rattle.itx.proofs.Step.{none, all, more}
+use Rattle.itx.proofs.Step.{none, more, two}
 use Rattle.itx.proofs.Instance.{own-table}
 use Rattle.levels.specs.Steps.{laneList, T, half, Narrow, Within64, Picked, Eight, Lane, Halving, OfLane, Ready, Kept, Moved, All, Sized}
 use Rattle.levels.proofs.AsLine.{lane-length, lane-at, lane-set, kept-set, kept-then}
@@ -200,3 +201,44 @@ module _ {t s x : List ℤ} {z : ℤ} {q c n j : ℕ} (r : Eight t s x z q c n j
 
   pub eight-more : run product z 8 ≡ half s j q (8 * c + 8) n
   eight-more = run-is 8 (omega arith)
+
+-- ---- where the halving starts: the product of size 2
+pub two-terms : (t s : List ℤ) (n j : ℕ) → t ≡ flat → getD t n (pos 0) *ℤ getD s j (pos 0) +ℤ getD t (2048 + n) (pos 0) *ℤ getD s (512 + j) (pos 0) ≡ dot T 32 2 n (line (laneList s j))
+two-terms t s n j e =
+    rw e
+    (sym (two T 32 n (line (laneList s j))
+    ∙ ap₂ _+ℤ_
+    (ap₂ _*ℤ_ (ap (λ (i : ℕ). getD flat i (pos 0)) (zero-add n)) (lane-at s j 0 (omega arith) ∙ ap (λ (i : ℕ). getD s i (pos 0)) (zero-add j)))
+    (ap (λ (y : ℤ). T 32 n *ℤ y) (lane-at s j 32 (omega arith)))))
+
+module _ (s e : List ℤ) (j : ℕ) (g : Narrow s) (long : 256 ≤ length e) (hj : j < 16) (a b : ℤ) where
+  abbrev pair : List ℤ
+  pair = set (set e j a) (16 + j) b
+
+  pair-lane : laneList pair j ≡ set (set (laneList e j) 0 a) 1 b
+  pair-lane =
+      let z : 0 * 16 + j ≡ j = omega arith in
+      lane-set (set e j a) j 1 b hj (omega arith) (omega (arith, length-set e j a))
+      ∙ ap (λ (l : List ℤ). set l 1 b) (rw z at (lane-set e j 0 a hj (omega arith) (omega arith)))
+
+  pair-kept : Kept e pair j
+  pair-kept =
+      let z : 0 * 16 + j ≡ j = omega arith in
+      kept-then (rw z at (kept-set e j 0 a hj (omega arith) (omega arith))) (kept-set (set e j a) j 1 b hj (omega arith) (omega (arith, length-set e j a)))
+
+  pub begun : a ≡ dot T 32 2 0 (line (laneList s j)) → b ≡ dot T 32 2 1 (line (laneList s j)) → Moved e s pair 2 0 j
+  begun ea eb =
+      record {
+        lane =
+            record {
+              level = record { narrow = g; whole = refl; size = omega arith; room = omega (arith, pair-kept .long) };
+              among = hj;
+              part = none (record { long = lane-length pair j; at = λ n h. at n h });
+            };
+        kept = pair-kept;
+      }
+    where
+      at : (n : ℕ) → n < 2 → getD (laneList pair j) n (pos 0) ≡ dot T 32 2 n (line (laneList s j))
+      at zero h = rw pair-lane (getD-set-other (set (laneList e j) 0 a) 1 0 b (pos 0) (λ r. omega arith) ∙ getD-set-same (laneList e j) 0 a (pos 0) (omega (arith, lane-length e j)) ∙ ea)
+      at (suc zero) h = rw pair-lane (getD-set-same (set (laneList e j) 0 a) 1 b (pos 0) (omega (arith, lane-length e j, length-set (laneList e j) 0 a)) ∙ eb)
+      at (suc (suc n)) h = let z : ⊥ = omega arith in absurd z

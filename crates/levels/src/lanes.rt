@@ -25,23 +25,13 @@ pub(crate) fn pick(s: &[i16; 1024], q: usize, c: usize, j: usize) -> [i32; 8]
 }
 
 // Eight terms more of the odd half at place n.
-pub(crate) fn dot8(
-    t: &[i8; 4096],
-    s: &[i16; 1024],
-    x: &[i32; 8],
-    z: i32,
-    q: usize,
-    c: usize,
-    n: usize,
-    j: usize,
-) -> i32
+pub(crate) fn dot8(t: &[i8; 4096], s: &[i16; 1024], x: &[i32; 8], z: i32, q: usize, c: usize, n: usize, j: usize) -> i32
     requires { ⌜ Eight (now t) (now s) (now x) z q c n j ⌝ }
     ensures { λ r. ⌜ r ≡ half (now (s .entry)) j q (8 * c + 8) n ⌝ }
 {
     let at = (16 * c + 1) * q * 64 + n;
     let step = q * 128;
-    z
-        + (t[at + 0 * step] as i32) * x[0]
+    z + (t[at + 0 * step] as i32) * x[0]
         + (t[at + 1 * step] as i32) * x[1]
         + (t[at + 2 * step] as i32) * x[2]
         + (t[at + 3 * step] as i32) * x[3]
@@ -52,15 +42,7 @@ pub(crate) fn dot8(
 }
 
 // One term more of it.
-pub(crate) fn term(
-    t: &[i8; 4096],
-    s: &[i16; 1024],
-    z: i32,
-    q: usize,
-    k: usize,
-    n: usize,
-    j: usize,
-) -> i32
+pub(crate) fn term(t: &[i8; 4096], s: &[i16; 1024], z: i32, q: usize, k: usize, n: usize, j: usize) -> i32
     requires { ⌜ One (now t) (now s) z q k n j ⌝ }
     ensures { λ r. ⌜ r ≡ half (now (s .entry)) j q (k + 1) n ⌝ }
 {

@@ -3,7 +3,7 @@ ghost use mathlib.Core.Path.{_≡_};
 ghost use Prim.Native.Nat.{_≤_};
 ghost use lib.ListN.{length};
 ghost use Rattle.table.specs.Flat.{flat};
-ghost use Rattle.levels.specs.Steps.{OfLane, Moved};
+ghost use Rattle.levels.specs.Steps.{OfLane, Moved, All, Sized};
 use super::lanes::dot8;
 use super::lanes::pick;
 use super::lanes::put;
@@ -22,4 +22,21 @@ fn lane8_0(t: &[i8; 4096], s: &[i16; 1024], e: &mut [i32], j: usize)
     put(s, e, 8, 5, j, dot8(t, s, &a, 0, 4, 0, 5, j));
     put(s, e, 8, 6, j, dot8(t, s, &a, 0, 4, 0, 6, j));
     put(s, e, 8, 7, j, dot8(t, s, &a, 0, 4, 0, 7, j));
+}
+
+fn rows8_0(s: &[i16; 1024], e: &mut [i32])
+    requires { ⌜ All (now s) (now e) 8 0 ⌝ }
+    ensures { λ _. ⌜ All (now (s .entry)) (now (e .exit)) 8 8 ⌝ }
+{
+    let t = table::table();
+    for j in 0..16 {
+        lane8_0(&t, s, e, j);
+    }
+}
+
+pub(crate) fn level8(s: &[i16; 1024], e: &mut [i32])
+    requires { ⌜ Sized (now s) (now e) 8 × (256 ≤ length (now e)) ⌝ }
+    ensures { λ _. ⌜ Sized (now (s .entry)) (now (e .exit)) 16 ⌝ }
+{
+    rows8_0(s, e);
 }

@@ -1,0 +1,52 @@
+-- `levels::level16::rows16_0` meets its contract: lane after lane. Written by tools/levels.py.
+-- Assumes nothing.
+use Prim.Native.Nat.{_-_}
+use native.Mathlib.Omega.{arith}
+use Rattle.levels.proofs.Passes.{Places, Passed, passed-none, passed-more, next-lane, passed-all}
+use Rattle.levels.proofs.level16.rows16_0.Statement.{statement}
+use Rattle.levels.proofs.level16.rows16_0.Tie as tie
+
+abbrev Inv-loop : tie.InvT-loop
+Inv-loop s e₀ t j₀ e j = Passed (Places s 16 0) (Places s 16 8) e₀ e j
+
+abbrev μ-loop : tie.MeasureT-loop
+μ-loop s e₀ t j₀ e j = 16 - j
+
+table-requires : tie.Need-table-requires Inv-loop μ-loop
+table-requires c κs = tt
+
+loop-holds : tie.Need-loop-holds Inv-loop μ-loop
+loop-holds c = passed-none (c .before .pre .part)
+
+lane16-0-requires : tie.Need-lane16-0-requires Inv-loop μ-loop
+lane16-0-requires c κs = (c .before .before .before .before .table .ensures, next-lane (c .before .before .before .before .before .pre .level) (c .before .before .before .loop .inv) (c .before .before .loop-test .taken))
+
+add-j : tie.Need-add-j Inv-loop μ-loop
+add-j c = omega arith
+
+loop-less : tie.Need-loop-less Inv-loop μ-loop
+loop-less c = omega arith
+
+loop-again : tie.Need-loop-again Inv-loop μ-loop
+loop-again c = passed-more (c .before .before .before .before .before .loop .inv) (c .before .before .before .before .loop-test .taken) (c .before .lane16-0 .ensures .kept) (c .before .lane16-0 .ensures .lane .part)
+
+same-length : tie.Need-same-length Inv-loop μ-loop
+same-length c = c .before .loop .inv .long
+
+returns : tie.Need-returns Inv-loop μ-loop
+returns c = passed-all (c .before .before .before .pre .level) (c .before .loop .inv) (c .loop-test .left)
+
+pub rows16-0-spec : {M : Type 1} → statement M
+rows16-0-spec =
+    tie.close
+    (tie.spec
+    Inv-loop
+    μ-loop
+    table-requires
+    loop-holds
+    lane16-0-requires
+    add-j
+    loop-less
+    loop-again
+    same-length
+    returns)

@@ -1,0 +1,24 @@
+-- `levels::level8::level8` meets its contract: eight places after eight. Written by tools/levels.py.
+-- Assumes nothing.
+use mathlib.Core.Path.{refl, _∙_}
+use lib.Dec.{lit≤}
+use Rattle.itx.proofs.Step.{none, all}
+use Rattle.levels.proofs.level8.level8.Statement.{statement}
+use Rattle.levels.proofs.level8.level8.Tie as tie
+
+rows8-0-requires : tie.Need-rows8-0-requires
+rows8-0-requires c κs = let s = c .before in record { level = record { narrow = s .pre .0 .narrow; whole = refl; size = lit≤ tt; room = s .pre .1 }; part = λ j h. none (s .pre .0 .sums j h) }
+
+same-length : tie.Need-same-length
+same-length c = c .before .rows8-0 .kept .1 .0
+
+returns : tie.Need-returns
+returns c = record { narrow = c .before .rows8-0 .ensures .level .narrow; sums = λ j h. all (c .before .rows8-0 .ensures .part j h) }
+
+pub level8-spec : {M : Type 1} → statement M
+level8-spec =
+    tie.close
+    (tie.spec
+    rows8-0-requires
+    same-length
+    returns)
