@@ -1,7 +1,7 @@
 -- A line of size 2m from its halves, once over m: what the even inputs give with the even rows, and the odd inputs' share (the crate itx's halving
 -- theorem, with the strides of line and table doubled in place of a stride of its own). Then the shares and the size 2, written out.
 -- Assumes nothing.
-use mathlib.Core.Path.{_≡_, refl, sym, ap, ap₂, _∙_, subst}
+use mathlib.Core.Path.{_≡_, sym, ap, ap₂, _∙_, subst}
 use mathlib.Core.List.{List}
 use Prim.Native.Nat.{ℕ, suc, _+_, _*_, _-_, _≤_, _<_}
 use native.Mathlib.Omega.{arith}
@@ -24,7 +24,7 @@ twice k w = let e : k * 2 ≡ k + k = omega arith in mul-add k w w ∙ sym (add-
 
 module _ (t : List ℤ) (w : ℕ) (x : List ℤ) (l j : ℕ) where
   -- the line as a function
-  abbrev pub line : ℕ → ℤ
+  abbrev line : ℕ → ℤ
   line k = rows x l k j
 
   direct : (N n : ℕ) → product (rows t w) N l x j n ≡ dot (rows t w) 1 N n line

@@ -1,5 +1,5 @@
-// The sums of one line, inputs of 16 bits, by straight code over any mirrored table: the bodies of the Rust's
-// `itx_pb2b0`, `itx_pb4b0` and `itx_pb8b0`. Document 01, "The two stages".
+// The sums of one line, inputs of 16 bits, by straight code over any mirrored table: the bodies of the Rust's `itx_pb2b0`, `itx_pb4b0`
+// and `itx_pb8b0`. Document 01, "The two stages".
 // Line j of l stands at j, l + j, 2l + j and so on, and row k of the table at place k·w: the even inputs and rows are a line and a table again, with
 // l and w doubled. All places are literals where t, w and the size are, so that no table is left at run time.
 // Differs from the Rust in: size 2 is read from the table; 32 bits hold every sum, so that a vector holds four lines.

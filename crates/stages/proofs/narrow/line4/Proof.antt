@@ -1,11 +1,11 @@
 -- `stages::narrow::line4` meets its contract: from the half as large, by the halving step. Assumes nothing.
 use mathlib.Core.Path.{_≡_, refl}
 use mathlib.Core.List.{List, [], _∷_, map}
-use Prim.Native.Nat.{ℕ, zero, suc, _+_, _*_, _-_, _≤_, _<_}
+use Prim.Native.Nat.{ℕ, zero, suc, _+_, _*_, _-_, _<_}
 use native.Mathlib.Omega.{arith}
 use lib.Dec.{lit<}
 use lib.ListN.{length, getD}
-use lib.IntN.{ℤ, pos, _+ℤ_, _-ℤ_, natAbs}
+use lib.IntN.{ℤ, pos, _+ℤ_, _-ℤ_}
 use mir.Syntax.{w32}
 use Rattle.integers.proofs.Expr.{Ex, var, add, sub, loc, Known, small, env, raw, machines, reads, fit}
 use Rattle.itx.specs.Line.{rows}

@@ -3,7 +3,7 @@ use borrow.Author.Needs.{needs, sfits-of}
 use borrow.Author.Tests.{le-ltb}
 use mathlib.Core.Path.{_≡_, sym, _∙_, subst}
 use mathlib.Core.List.{List}
-use Prim.Native.Nat.{ℕ, _+_, _*_, _^_, _%_}
+use Prim.Native.Nat.{ℕ, _*_, _^_, _%_}
 use native.Mathlib.Omega.{arith}
 use lib.ListN.{length}
 use lib.IntN.{ℤ}

@@ -6,7 +6,7 @@ use mir.Facts.{toZ-ofZ}
 use Rattle.evc.specs.Table.{tm}
 use Rattle.evc.specs.Stages.{stageTwoAt}
 use Rattle.itx.specs.Line.{rows}
-use Rattle.itx.specs.Lines.{shifted, Bounded}
+use Rattle.itx.specs.Lines.{shifted}
 use Rattle.itx.proofs.Instance.{own-table, own-same}
 use Rattle.stages.specs.Sums.{wide}
 use Rattle.stages.proofs.Rows.{reach, rowed, bounded}
