@@ -53,7 +53,7 @@ pub(crate) fn diff(
     if !is_good(end) {
         return Said { used, end };
     }
-    let a = sad::evce_diff_16b(
+    let a = diff::evce_diff_16b(
         &org[0..i],
         b.width,
         b.height,
@@ -86,7 +86,7 @@ pub(crate) fn satd(
     if !is_good(end) {
         return Said { used, end };
     }
-    let a = sad::evce_satd_16b(
+    let a = diff::evce_satd_16b(
         &org[0..i],
         b.width,
         b.height,

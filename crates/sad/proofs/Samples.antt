@@ -1,8 +1,8 @@
 -- How large what two samples of 16 bits add to a total can be. Assumes nothing.
 use Prim.Native.Nat.{ℕ, _*_, _^_, _≤_}
 use native.Mathlib.Nat.{le-trans, mul-le-mul, div-le-self}
+use Rattle.integers.proofs.Parts.{abs-dif-le}
 use Rattle.sad.specs.Totals.{apart, squared}
-use Rattle.sad.proofs.Laws.{abs-dif-le}
 
 pub apart-le : (p q : ℕ) → p ≤ 65535 → q ≤ 65535 → apart p q ≤ 65535
 unfolding apart

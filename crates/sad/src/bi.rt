@@ -4,7 +4,8 @@
 ghost use mathlib.Core.Path.{_≡_};
 ghost use Prim.Native.Nat.{_+_, _*_, _≤_};
 ghost use lib.ListN.{length};
-ghost use Rattle.sad.specs.Totals.{rowOf, BiRowsTold, BiBlocksTold, TwoRows, TwoBlocks, apartBi, lowMark};
+ghost use Rattle.planes.specs.Blocks.{TwoBlocks};
+ghost use Rattle.sad.specs.Totals.{rowOf, BiRowsTold, BiBlocksTold, TwoRows, apartBi, lowMark};
 use crate::rows::Totals;
 
 // Row j of a block whose rows stand a stride apart in l, from `at` on.

@@ -5,7 +5,7 @@
 ghost use mathlib.Core.Path.{_≡_};
 ghost use Prim.Native.Nat.{_+_, _*_, _≤_};
 ghost use lib.ListN.{length};
-ghost use Rattle.sad.specs.Totals.{rowOf, RowsTold, rowsMarks, TwoRows, apart, squared};
+ghost use Rattle.sad.specs.Totals.{rowOf, RowsTold, TwoRows, apart, squared};
 
 // Row j of a block whose rows stand a stride apart in l, from `at` on.
 pub(crate) fn row(l: &[u16], at: usize, stride: usize, j: usize, w: usize) -> &[u16]
@@ -63,16 +63,4 @@ pub(crate) fn ssd_row(a: &[u16], b: &[u16], w: usize, shift: u8) -> Totals
         sum = sum + (((d * d) >> shift) as u64);
     }
     Totals { sum: sum, any: any }
-}
-
-// The OR of all samples of two rows.
-pub(crate) fn any_row(a: &[u16], b: &[u16], w: usize) -> u16
-    requires { ⌜ TwoRows w (now a) (now b) ⌝ }
-    ensures { λ r. ⌜ r ≡ rowsMarks w (now (a .entry)) (now (b .entry)) ⌝ }
-{
-    let mut any: u16 = 0;
-    for i in 0..w {
-        any = any | (a[i] | b[i]);
-    }
-    any
 }

@@ -4,8 +4,9 @@ ghost use mathlib.Core.Path.{_≡_};
 ghost use Prim.Native.Nat.{_*_, _≤_};
 ghost use lib.ListN.{length};
 ghost use Rattle.evc.specs.Answers.{distortionReading};
+ghost use Rattle.planes.specs.Blocks.{strided};
 ghost use Rattle.sad.specs.Edges.{edged, AtEdges};
-ghost use Rattle.sad.specs.Rests.{strided, biRows, sadLeft};
+ghost use Rattle.sad.specs.Rests.{biRows, sadLeft};
 use evc::Distortion;
 
 // A block and one at the edges, which is first read into a packed block.

@@ -9,9 +9,9 @@ use mir.Val.{toZ, ofZ}
 use mir.Facts.{toZ-ofZ}
 use Rattle.integers.specs.Lists.{tab, written}
 use Rattle.integers.proofs.Written.{tab-ext, grid-at}
+use Rattle.integers.proofs.Grid.{Wrote, wrote-start, wrote-row, wrote-end, wrote-long, row-room, row-long}
 use Rattle.evc.specs.Planes.{edge}
 use Rattle.sad.specs.Edges.{edgeCell, edgeAt}
-use Rattle.sad.proofs.Grid.{Wrote, wrote-start, wrote-row, wrote-end, wrote-long, row-room, row-long}
 use Rattle.sad.proofs.edges.edge_block.Statement.{statement}
 use Rattle.sad.proofs.edges.edge_block.Tie as tie
 

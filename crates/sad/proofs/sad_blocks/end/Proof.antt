@@ -3,7 +3,7 @@ use Prim.Native.Nat.{_-_, _^_}
 use native.Mathlib.Nat.{div-le-self}
 use native.Mathlib.Omega.{arith}
 use borrow.Author.Tests.{le-leb, lt-leb}
-use Rattle.sad.proofs.Laws.{div-some, div-none}
+use Rattle.integers.proofs.Bits.{div-some, div-none}
 use borrow.Author.Needs.{needs}
 use Rattle.sad.proofs.sad_blocks.end.Statement.{statement}
 use Rattle.sad.proofs.sad_blocks.end.Tie as tie

@@ -4,10 +4,11 @@ use Prim.Native.Nat.{ℕ, _-_, _/_, _^_}
 use borrow.Author.Needs.{needs}
 use lib.IntN.{pos}
 use Rattle.evc.specs.Differences.{sadTotal}
-use Rattle.sad.specs.Totals.{apartBi, lowMark, cell}
-use Rattle.sad.specs.Rests.{strided, biRows, rest}
+use Rattle.planes.specs.Blocks.{cell, strided, rest}
+use Rattle.planes.proofs.Replies.{marked-rest}
+use Rattle.sad.specs.Totals.{apartBi, lowMark}
+use Rattle.sad.specs.Rests.{biRows}
 use Rattle.sad.proofs.Marks.{low-marked}
-use Rattle.sad.proofs.Replies.{marked-rest}
 use Rattle.sad.proofs.sad_blocks.of_bi.Statement.{statement}
 use Rattle.sad.proofs.sad_blocks.of_bi.Tie as tie
 

@@ -6,7 +6,7 @@ use borrow.Author.Needs.{needs}
 use lib.ListN.{length}
 use Rattle.evc.specs.Answers.{distortionReading}
 use Rattle.evc.specs.Differences.{difference, sadTotal}
-use Rattle.sad.specs.Rests.{strided, rest}
+use Rattle.planes.specs.Blocks.{strided, rest}
 use Rattle.sad.specs.Edges.{edged, AtEdges}
 use Rattle.sad.proofs.AtEdges.{as-bits, of-bits}
 use Rattle.sad.proofs.sad_edges.at_edges.Statement.{statement}

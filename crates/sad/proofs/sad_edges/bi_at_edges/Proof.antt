@@ -6,7 +6,8 @@ use borrow.Author.Needs.{needs}
 use lib.ListN.{length}
 use Rattle.evc.specs.Answers.{distortionReading}
 use Rattle.evc.specs.Differences.{difference, sadTotal}
-use Rattle.sad.specs.Rests.{biRows, rest}
+use Rattle.planes.specs.Blocks.{rest}
+use Rattle.sad.specs.Rests.{biRows}
 use Rattle.sad.specs.Edges.{edged, AtEdges}
 use Rattle.sad.proofs.AtEdges.{as-bits, of-bits}
 use Rattle.sad.proofs.sad_edges.bi_at_edges.Statement.{statement}

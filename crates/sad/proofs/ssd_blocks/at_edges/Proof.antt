@@ -7,7 +7,7 @@ use lib.IntN.{pos}
 use lib.ListN.{length}
 use Rattle.evc.specs.Answers.{squaredReading}
 use Rattle.evc.specs.Differences.{difference, ssdTotal}
-use Rattle.sad.specs.Rests.{rest}
+use Rattle.planes.specs.Blocks.{rest}
 use Rattle.sad.specs.Edges.{edged, BothEdges}
 use Rattle.sad.proofs.AtEdges.{as-bits, of-bits}
 use Rattle.sad.proofs.ssd_blocks.at_edges.Statement.{statement}

@@ -5,11 +5,11 @@ use native.Mathlib.Omega.{arith}
 use lib.IntN.{pos}
 use lib.Bits.{bitOr}
 use Rattle.evc.specs.Differences.{ssdTotal}
-use Rattle.sad.specs.Totals.{apart, squared, cell}
-use Rattle.sad.specs.Rests.{strided, rest}
+use Rattle.planes.specs.Blocks.{cell, strided, rest}
+use Rattle.planes.proofs.Replies.{marked-rest}
+use Rattle.sad.specs.Totals.{apart, squared}
 use Rattle.sad.proofs.Samples.{squared-le}
 use Rattle.sad.proofs.Cells.{compared-most}
-use Rattle.sad.proofs.Replies.{marked-rest}
 use borrow.Author.Needs.{needs}
 use Rattle.sad.proofs.ssd_blocks.of_blocks.Statement.{statement}
 use Rattle.sad.proofs.ssd_blocks.of_blocks.Tie as tie
