@@ -13,3 +13,5 @@ pub mod Logs
 pub mod Differing
 pub mod AtEdges
 pub mod Tiling
+pub mod Near
+pub mod Pairs

@@ -5,3 +5,4 @@ pub mod Areas
 pub mod Rests
 pub mod Small
 pub mod Edges
+pub mod Near
