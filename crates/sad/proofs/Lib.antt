@@ -7,3 +7,5 @@ pub mod Marks
 pub mod Replies
 pub mod Logs
 pub mod AtEdges
+pub mod Near
+pub mod Pairs

@@ -2,3 +2,4 @@
 pub mod Totals
 pub mod Rests
 pub mod Edges
+pub mod Near

@@ -63,5 +63,5 @@ pub(crate) fn of_bi(
     requires { ⌜ (8 ≤ depth) × (depth ≤ 14) ⌝ }
     ensures { λ r. ⌜ distortionReading r ≡ sadLeft w h depth (biRows (now (bi .entry)) w) (strided (now (b .entry)) «b_at» «b_stride» depth) ⌝ }
 {
-    end(crate::bi::sad_block(bi, b, b_at, b_stride, w, h), depth)
+    end(crate::bi::total(bi, b, b_at, b_stride, w, h), depth)
 }

@@ -47,7 +47,7 @@ pub(crate) fn of_blocks(
     ensures { λ r. ⌜ squaredReading r ≡ ssdLeft w h depth (strided (now (a .entry)) «a_at» «a_stride» depth) (strided (now (b .entry)) «b_at» «b_stride» depth) ⌝ }
 {
     end(
-        crate::blocks::ssd_block(a, a_at, a_stride, b, b_at, b_stride, w, h, 2 * (depth - 8)),
+        crate::blocks::ssd_block(a, a_at, a_stride, b, b_at, b_stride, w, h, depth),
         depth,
     )
 }
