@@ -3,7 +3,6 @@ pub mod Signed
 pub mod Samples
 pub mod Running
 pub mod Cells
-pub mod Marks
 pub mod Replies
 pub mod Logs
 pub mod AtEdges

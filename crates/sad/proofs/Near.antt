@@ -23,9 +23,9 @@ use Rattle.integers.specs.Or.{orN}
 use Rattle.integers.proofs.Parts.{abs-dif-le}
 use Rattle.evc.specs.Tests.{_when_, first, reply}
 use Rattle.evc.specs.Planes.{Block, tooLow}
-use Rattle.planes.specs.Blocks.{rest}
+use Rattle.planes.specs.Blocks.{rest, lowMark}
 use Rattle.planes.proofs.Replies.{marked-rest}
-use Rattle.sad.specs.Totals.{apart, squared, apartBi, lowMark}
+use Rattle.sad.specs.Totals.{apart, squared, apartBi}
 use Rattle.sad.specs.Near.{squaredLow, raise, nearBi}
 
 -- ---- samples

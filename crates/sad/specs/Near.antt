@@ -11,8 +11,8 @@ use lib.ListN.{length, getD}
 use Rattle.integers.specs.Sum.{sumN}
 use Rattle.integers.specs.Or.{orN}
 use Rattle.evc.specs.Planes.{tooLow}
-use Rattle.planes.specs.Blocks.{cell}
-use Rattle.sad.specs.Totals.{Told, Compared, squared, apartBi, lowMark}
+use Rattle.planes.specs.Blocks.{cell, lowMark}
+use Rattle.sad.specs.Totals.{Told, Compared, squared, apartBi}
 
 -- of two samples, each cut to as many bits as the depth has
 unfoldable pub squaredLow : ℕ → ℕ → ℕ → ℕ

@@ -4,12 +4,10 @@ use mathlib.Core.List.{List}
 use Prim.Native.Nat.{ℕ, _+_, _*_, _/_, _^_, _≤_}
 use lib.Bits.{bitOr}
 use lib.ListN.{length, getD, take, drop}
-use mathlib.Core.Bool.{cond}
 use lib.IntN.{ℤ, pos, natAbs, _-ℤ_}
 use Rattle.integers.specs.Sum.{sumN}
 use Rattle.integers.specs.Or.{orN}
-use Rattle.evc.specs.Planes.{tooLow}
-use Rattle.planes.specs.Blocks.{cell}
+use Rattle.planes.specs.Blocks.{cell, lowMark}
 
 -- of two samples: how far they are apart, and that squared and divided by 2^shift
 unfoldable pub apart : ℕ → ℕ → ℕ
@@ -18,12 +16,9 @@ apart p q = natAbs (pos p -ℤ pos q)
 unfoldable pub squared : ℕ → ℕ → ℕ → ℕ
 squared shift p q = apart p q * apart p q / 2 ^ shift
 
--- of a bi-prediction value and a sample: how far they are apart; and a mark that no depth holds where the value is too low
+-- of a bi-prediction value and a sample: how far they are apart
 unfoldable pub apartBi : ℤ → ℕ → ℕ
 apartBi v q = natAbs (v -ℤ pos q)
-
-unfoldable pub lowMark : ℤ → ℕ
-lowMark v = cond (tooLow v) 65535 0
 
 -- ---- rows
 -- two rows of w values

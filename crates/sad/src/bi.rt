@@ -5,8 +5,8 @@ ghost use mathlib.Core.Path.{_≡_};
 ghost use Prim.Native.Nat.{_+_, _*_, _≤_};
 ghost use lib.ListN.{length};
 ghost use lib.Bits.{bitOr};
-ghost use Rattle.planes.specs.Blocks.{TwoBlocks};
-ghost use Rattle.sad.specs.Totals.{rowOf, BiRowsTold, BiBlocksTold, TwoRows, apartBi, lowMark};
+ghost use Rattle.planes.specs.Blocks.{TwoBlocks, lowMark};
+ghost use Rattle.sad.specs.Totals.{rowOf, BiRowsTold, BiBlocksTold, TwoRows, apartBi};
 ghost use Rattle.sad.specs.Near.{raise, nearBi, TwoRuns, RunsTold, InRuns, AllRunsTold, BiCounted};
 use crate::rows::Totals;
 
@@ -33,13 +33,6 @@ fn distance(v: i16, q: u16) -> u32
     }
 }
 
-// The mark of a value that is too low.
-fn mark(v: i16) -> u16
-    ensures { λ r. ⌜ r ≡ lowMark v ⌝ }
-{
-    if v < -16384 { 65535 } else { 0 }
-}
-
 // The absolute differences of two rows, added.
 fn sad_row(a: &[i16], b: &[u16], w: usize) -> Totals
     requires { ⌜ TwoRows w (now a) (now b) ⌝ }
@@ -51,7 +44,7 @@ fn sad_row(a: &[i16], b: &[u16], w: usize) -> Totals
     for i in 0..w {
         let v = a[i];
         let q = b[i];
-        any = any | (mark(v) | q);
+        any = any | (planes::low_mark(v) | q);
         sum = sum + distance(v, q);
     }
     let all = sum as u64;
@@ -140,7 +133,7 @@ fn pairs(a: &[i16], b: &[u16], n: usize) -> Totals
         last = last + (e & 255);
     }
     let sum = (high as u64) * 256 + (last as u64);
-    let all = any | mark(low);
+    let all = any | planes::low_mark(low);
     Totals { sum: sum, any: all }
 }
 

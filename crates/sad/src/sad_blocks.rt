@@ -1,6 +1,6 @@
 // SAD once sides, depth and areas are tested: of two blocks of samples, and of bi-prediction values and a block of samples. Document 01,
 // "Distortion".
-// Differs from the Rust in: the total is divided once, by a depth that is an argument.
+// Differs from the Rust in: the total is divided once (planes::sad_answer), by a depth that is an argument.
 ghost use mathlib.Core.Path.{_≡_};
 ghost use Prim.Native.Nat.{_-_, _/_, _^_, _<_, _≤_};
 ghost use mathlib.Core.List.{[], _∷_};
@@ -13,18 +13,13 @@ ghost use Rattle.planes.specs.Blocks.{TwoBlocks, strided};
 ghost use Rattle.sad.specs.Rests.{biRows, sadLeft};
 use crate::rows::Totals;
 use evc::Distortion;
-use evc::Refusal;
 
-// Every SAD ends here: a sample that is too large leaves a bit at or above the depth.
+// Every SAD ends here.
 fn end(t: Totals, depth: u8) -> Distortion
     requires { ⌜ (8 ≤ depth) × (depth ≤ 14) × (t .sum < 2 ^ 32) ⌝ }
     ensures { λ r. ⌜ distortionReading r ≡ reply (first ((number.Sample when leb (2 ^ depth) (t .any)) ∷ [])) (t .sum / 2 ^ (depth - 8)) ⌝ }
 {
-    if t.any >> depth != 0 {
-        return Distortion::Refused(Refusal::Sample);
-    }
-    let sad = (t.sum >> (depth - 8)) as u32;
-    Distortion::Value(sad)
+    planes::sad_answer(t.sum as u32, t.any, depth)
 }
 
 // Two blocks of samples, after all other tests.

@@ -4,7 +4,7 @@ use lib.Signed.{_≤ℤ_}
 use mir.Facts.{toZ-ofZ}
 use Rattle.integers.proofs.Order.{<ℤ-≤ℤ}
 use Rattle.integers.proofs.Bits.{lt-held, lt-failed}
-use Rattle.sad.specs.Totals.{lowMark}
+use Rattle.planes.specs.Blocks.{lowMark}
 use Rattle.sad.proofs.Near.{low-first, low-second}
 use Rattle.sad.proofs.bi.lower.Statement.{statement}
 use Rattle.sad.proofs.bi.lower.Tie as tie

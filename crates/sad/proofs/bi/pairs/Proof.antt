@@ -10,7 +10,8 @@ use mir.Syntax.{w16}
 use mir.Val.{toZ, ofZ}
 use mir.Facts.{toZ-ofZ}
 use Rattle.integers.proofs.Bits.{back}
-use Rattle.sad.specs.Totals.{Told, lowMark}
+use Rattle.planes.specs.Blocks.{lowMark}
+use Rattle.sad.specs.Totals.{Told}
 use Rattle.sad.specs.Near.{nearBi}
 use Rattle.sad.proofs.Pairs.{Paired, paired-start, paired-step, paired-end}
 use Rattle.sad.proofs.bi.pairs.Statement.{statement}
@@ -135,8 +136,8 @@ cast-sum-2 c = omega arith
 add-sum : tie.Need-add-sum Inv-loop μ-loop
 add-sum c = omega (arith, c .before .loop .inv .few, c .before .loop .inv .fewer, c .before .loop .inv .highs .most, c .before .before .before .pre .small)
 
-mark-requires : tie.Need-mark-requires Inv-loop μ-loop
-mark-requires c κs = tt
+low-mark-requires : tie.Need-low-mark-requires Inv-loop μ-loop
+low-mark-requires c κs = tt
 
 returns : tie.Need-returns Inv-loop μ-loop
 returns c =
@@ -147,7 +148,7 @@ returns c =
     let B : ℕ → ℕ = λ k. getD (a .b .now) k 0 in
     let f : ℕ → ℕ = λ k. nearBi (A k) (B k) in
     let M : ℕ → ℕ = λ k. lowMark (A k) in (
-      subst (λ (m : ℕ). Told (a .n + a .n) f (λ k. bitOr (M k) (B k)) (l .high * 256 + l .last) (bitOr (l .any) m)) (sym (c .mark .ensures))
+      subst (λ (m : ℕ). Told (a .n + a .n) f (λ k. bitOr (M k) (B k)) (l .high * 256 + l .last) (bitOr (l .any) m)) (sym (c .low-mark .ensures))
           (paired-end (a .n) f M B (l .inv) (c .before .loop-test .left)),
       omega (arith, l .inv .few, l .inv .fewer, l .inv .highs .most, t .before .before .pre .small),
     )
@@ -183,5 +184,5 @@ pairs-spec =
     mul-sum
     cast-sum-2
     add-sum
-    mark-requires
+    low-mark-requires
     returns)

@@ -8,8 +8,8 @@ use lib.IntN.{pos}
 use lib.ListN.{length}
 use Rattle.integers.specs.Sum.{sumN}
 use Rattle.integers.specs.Or.{orN}
-use Rattle.planes.specs.Blocks.{cell}
-use Rattle.sad.specs.Totals.{Told, lowMark}
+use Rattle.planes.specs.Blocks.{cell, lowMark}
+use Rattle.sad.specs.Totals.{Told}
 use Rattle.sad.specs.Near.{nearBi, InRuns}
 use Rattle.sad.proofs.Running.{Running, running-start, running-step, running-end}
 use Rattle.sad.proofs.Cells.{row-length, told-rows}

@@ -6,8 +6,8 @@ use borrow.Author.Needs.{needs}
 use lib.Bits.{bitOr}
 use lib.IntN.{ℤ, pos}
 use lib.ListN.{length}
-use Rattle.planes.specs.Blocks.{TwoBlocks, cell}
-use Rattle.sad.specs.Totals.{Compared, apartBi, lowMark}
+use Rattle.planes.specs.Blocks.{TwoBlocks, cell, lowMark}
+use Rattle.sad.specs.Totals.{Compared, apartBi}
 use Rattle.sad.proofs.bi.sad_block.Statement.{statement}
 use Rattle.sad.proofs.bi.sad_block.Tie as tie
 

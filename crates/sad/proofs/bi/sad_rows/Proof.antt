@@ -6,9 +6,9 @@ use lib.Bits.{bitOr}
 use lib.IntN.{pos}
 use Rattle.integers.specs.Sum.{sumN}
 use Rattle.integers.specs.Or.{orN}
-use Rattle.planes.specs.Blocks.{cell}
+use Rattle.planes.specs.Blocks.{cell, lowMark}
 use Rattle.planes.proofs.Planes.{in-one, in-two}
-use Rattle.sad.specs.Totals.{Told, apartBi, lowMark}
+use Rattle.sad.specs.Totals.{Told, apartBi}
 use Rattle.sad.proofs.Running.{Running, running-start, running-step, running-end}
 use Rattle.sad.proofs.Cells.{two-rows, told-rows}
 use Rattle.sad.proofs.bi.sad_rows.Statement.{statement}

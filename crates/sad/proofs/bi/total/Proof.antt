@@ -14,8 +14,8 @@ use Rattle.integers.specs.Or.{ofOr, orN}
 use Rattle.integers.proofs.Sum.{sum-ext}
 use Rattle.order.specs.Positions.{reach}
 use Rattle.evc.proofs.Marks.{below-all}
-use Rattle.planes.specs.Blocks.{TwoBlocks, cell}
-use Rattle.sad.specs.Totals.{apartBi, lowMark}
+use Rattle.planes.specs.Blocks.{TwoBlocks, cell, lowMark}
+use Rattle.sad.specs.Totals.{apartBi}
 use Rattle.sad.specs.Near.{nearBi, InRuns, AllRunsTold, BiCounted}
 use Rattle.sad.proofs.Near.{near-is}
 use Rattle.sad.proofs.Pairs.{sum-rows}

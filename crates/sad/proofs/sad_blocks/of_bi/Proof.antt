@@ -7,10 +7,10 @@ use lib.IntN.{pos}
 use lib.Pow.{pow-mono}
 use Rattle.integers.specs.Sum.{sumN}
 use Rattle.evc.specs.Differences.{sadTotal}
-use Rattle.planes.specs.Blocks.{cell, strided}
-use Rattle.sad.specs.Totals.{apartBi, lowMark}
+use Rattle.planes.specs.Blocks.{cell, strided, lowMark}
+use Rattle.planes.proofs.LowMark.{low-marked}
+use Rattle.sad.specs.Totals.{apartBi}
 use Rattle.sad.specs.Rests.{biRows}
-use Rattle.sad.proofs.Marks.{low-marked}
 use Rattle.sad.proofs.Near.{marked-value}
 use Rattle.sad.proofs.sad_blocks.of_bi.Statement.{statement}
 use Rattle.sad.proofs.sad_blocks.of_bi.Tie as tie
