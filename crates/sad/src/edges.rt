@@ -52,7 +52,45 @@ fn edge_row(l: &[u16], base: usize, x: i16, w: usize, out: &mut [u16])
     }
 }
 
+// The same, sample by sample: for a width that is a small literal, so that each column is found once for all rows.
+fn short_row(l: &[u16], base: usize, x: i16, w: usize, out: &mut [u16])
+    requires { ⌜ RowEdges (length (now l)) base x w ⌝ }
+    requires { ⌜ length (now out) ≡ w ⌝ }
+    ensures { λ _. ⌜ now (out .exit) ≡ tab w (λ i. getD (now (l .entry)) (base + plane.edge (x +ℤ pos i)) 0) ⌝ }
+{
+    for i in 0..w {
+        out[i] = l[base + edge(x, i)];
+    }
+}
+
+// The same, by the one that suits the width.
+fn read_row(l: &[u16], base: usize, x: i16, w: usize, out: &mut [u16])
+    requires { ⌜ RowEdges (length (now l)) base x w ⌝ }
+    requires { ⌜ length (now out) ≡ w ⌝ }
+    ensures { λ _. ⌜ now (out .exit) ≡ tab w (λ i. getD (now (l .entry)) (base + plane.edge (x +ℤ pos i)) 0) ⌝ }
+{
+    if w <= 16 {
+        short_row(l, base, x, w, &mut out[..]);
+    } else {
+        edge_row(l, base, x, w, &mut out[..]);
+    }
+}
+
 // The block, row after row, into the first places of out.
+fn edge_rows(l: &[u16], stride: usize, x: i16, y: i16, w: usize, h: usize, out: &mut [u16])
+    requires { ⌜ EdgesIn (length (now l)) stride x y w h ⌝ }
+    requires { ⌜ h * w ≤ length (now out) ⌝ }
+    ensures { λ _. ⌜ now (out .exit) ≡ written (h * w) (edgeAt (now (l .entry)) stride x y w) (now (out .entry)) ⌝ }
+{
+    for j in 0..h {
+        let base = edge(y, j) * stride;
+        let from = j * w;
+        let to = from + w;
+        read_row(l, base, x, w, &mut out[from..to]);
+    }
+}
+
+// The same, with small widths as literals.
 pub(crate) fn edge_block(
     l: &[u16],
     stride: usize,
@@ -66,11 +104,12 @@ pub(crate) fn edge_block(
     requires { ⌜ h * w ≤ length (now out) ⌝ }
     ensures { λ _. ⌜ now (out .exit) ≡ written (h * w) (edgeAt (now (l .entry)) stride x y w) (now (out .entry)) ⌝ }
 {
-    for j in 0..h {
-        let base = edge(y, j) * stride;
-        let from = j * w;
-        let to = from + w;
-        edge_row(l, base, x, w, &mut out[from..to]);
+    match w {
+        16 => edge_rows(l, stride, x, y, 16, h, out),
+        8 => edge_rows(l, stride, x, y, 8, h, out),
+        4 => edge_rows(l, stride, x, y, 4, h, out),
+        2 => edge_rows(l, stride, x, y, 2, h, out),
+        _ => edge_rows(l, stride, x, y, w, h, out),
     }
 }
 

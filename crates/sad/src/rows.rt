@@ -1,7 +1,7 @@
 // One row of two blocks: the sums that SAD and SSD add up, undivided, and beside each sum what the test of SAMPLE looks at. Document 01,
 // "Distortion".
 // Differs from the Rust in: a row is a part of its buffer; samples are tested by the OR of all that are read, compared once by the caller, so
-// that these loops have no way out and become vector code.
+// that these loops have no way out and become vector code. SSD's samples are first cut to the depth's bits, which changes only what is refused.
 ghost use mathlib.Core.Path.{_≡_};
 ghost use Prim.Native.Nat.{_+_, _*_, _<_, _≤_};
 ghost use lib.ListN.{length};
