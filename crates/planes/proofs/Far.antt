@@ -1,11 +1,11 @@
 -- Positions that may be negative: a test of order of ℤ as one of ℕ, and where w places from x on end. Assumes nothing.
-use mathlib.Core.Path.{_≡_, sym, _∙_}
+use mathlib.Core.Path.{_≡_, refl, sym, _∙_}
 use mathlib.Core.Bool.{false}
 use Prim.Native.Nat.{ℕ, suc, _+_, _≤_}
 use native.Mathlib.Omega.{arith}
 use lib.Dec.{ltb}
 use lib.IntN.{ℤ, pos, negsuc, _+ℤ_, natAbs}
-use lib.Signed.{_≤ℤ_, ltZ}
+use lib.Signed.{_≤ℤ_, _<ℤ_, ltZ}
 use borrow.Author.Tests.{lt-ltb, le-ltb, ltb-false}
 use mir.Syntax.{w16}
 use mir.Val.{SFits}
@@ -13,7 +13,7 @@ use Rattle.integers.proofs.Dif.{up, dn}
 use Rattle.integers.proofs.Order.{signed}
 use Rattle.integers.proofs.Parts.{sum-parts, from-lowest}
 use Rattle.order.proofs.Tests.{ltb-same}
-use Rattle.evc.specs.Planes.{pastEdge}
+use Rattle.evc.specs.Planes.{edge, pastEdge}
 
 ltZ-nat : (x y : ℤ) → ltZ x y ≡ ltb (up x + dn y) (up y + dn x)
 ltZ-nat (pos a) (pos b) = ltb-same a b (a + 0) (b + 0) (λ h. omega arith) (λ h. omega arith)
@@ -37,3 +37,12 @@ past-far x w side f = far x (x +ℤ pos 32768) w side (sum-parts x 32768) (from-
 -- w places that don't reach past a side: each reads at an edge that is below it
 pub not-past : (x : ℤ) (w side : ℕ) → pastEdge x w side ≡ false → up x + w ≤ side + dn x
 not-past x w side e = ltb-false (side + dn x) (up x + w) (sym (ends x w side) ∙ e)
+
+-- ---- where a position reads
+pub edge-neg : (x : ℤ) → x <ℤ pos 0 → 0 ≡ edge x
+edge-neg (pos n) h = let z : ⊥ = omega signed in absurd z
+edge-neg (negsuc n) h = refl
+
+pub edge-pos : (x : ℤ) → pos 0 ≤ℤ x → natAbs x ≡ edge x
+edge-pos (pos n) h = refl
+edge-pos (negsuc n) h = let z : ⊥ = omega signed in absurd z

@@ -5,6 +5,7 @@ mod tests;
 
 pub use marks::low_mark;
 pub use marks::sad_answer;
+pub use tests::edge;
 pub use tests::logs;
 pub use tests::malformed;
 pub use tests::outside_edges;

@@ -5,9 +5,11 @@ ghost use mathlib.Core.Path.{_≡_};
 ghost use mathlib.Core.Bool.{_||_};
 ghost use Prim.Native.Nat.{_+_, _%_, _≤_};
 ghost use lib.Dec.{ltb, eqb};
+ghost use lib.IntN.{pos, _+ℤ_};
 ghost use Rattle.order.specs.Positions.{reach};
 ghost use Rattle.evc.specs.Tests as of;
 ghost use Rattle.evc.specs.Planes.{pastEdge};
+ghost use Rattle.evc.specs.Planes as plane;
 ghost use Rattle.planes.specs.Areas.{badPlane, outsidePlane, outsideEdges};
 
 // x is below lo or above hi.
@@ -152,4 +154,12 @@ pub fn wrong_depth(depth: u8) -> bool
     ensures { λ r. ⌜ r ≡ of.outside 8 14 depth ⌝ }
 {
     if depth < 8 { true } else { 14 < depth }
+}
+
+// Where the i-th position from p on reads: the larger of it and 0.
+pub fn edge(p: i16, i: u16) -> usize
+    ensures { λ r. ⌜ r ≡ plane.edge (p +ℤ pos i) ⌝ }
+{
+    let at = (p as i32) + (i as i32);
+    if at < 0 { 0 } else { at as usize }
 }

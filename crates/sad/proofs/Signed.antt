@@ -11,18 +11,6 @@ use Rattle.integers.proofs.Parts.{sum-parts}
 use Rattle.evc.specs.Planes.{edge}
 use Rattle.sad.specs.Edges.{behind}
 
-pub edge-up : (x : ℤ) → edge x ≡ up x
-edge-up (pos n) = refl
-edge-up (negsuc n) = refl
-
-pub edge-neg : (x : ℤ) → x <ℤ pos 0 → 0 ≡ edge x
-edge-neg (pos n) h = let z : ⊥ = omega signed in absurd z
-edge-neg (negsuc n) h = refl
-
-pub edge-pos : (x : ℤ) → pos 0 ≤ℤ x → natAbs x ≡ edge x
-edge-pos (pos n) h = refl
-edge-pos (negsuc n) h = let z : ⊥ = omega signed in absurd z
-
 -- where the i-th position from x on reads: at 0 while it is negative, and then one place further each time
 pub edge-under : (x : ℤ) (i : ℕ) → i < behind x → edge (x +ℤ pos i) ≡ 0
 edge-under (pos n) i h = absurd (not-suc-le-zero h)

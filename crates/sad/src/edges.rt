@@ -11,15 +11,6 @@ ghost use Rattle.integers.specs.Lists.{tab, written};
 ghost use Rattle.evc.specs.Planes as plane;
 ghost use Rattle.sad.specs.Edges.{edgeAt, behind, Negative, RowEdges, EdgesIn, Plain};
 
-// Where the i-th position from p on reads: the larger of it and 0.
-fn edge(p: i16, i: usize) -> usize
-    requires { ⌜ i < 64 ⌝ }
-    ensures { λ r. ⌜ r ≡ plane.edge (p +ℤ pos i) ⌝ }
-{
-    let at = (p as i32) + (i as i32);
-    if at < 0 { 0 } else { at as usize }
-}
-
 // How many positions from x on are negative.
 fn below(x: i16) -> usize
     ensures { λ r. ⌜ (r ≡ behind x) × (r ≤ 32768) ⌝ }
@@ -42,7 +33,7 @@ fn edge_row(l: &[u16], base: usize, x: i16, w: usize, out: &mut [u16])
     ensures { λ _. ⌜ now (out .exit) ≡ tab w (λ i. getD (now (l .entry)) (base + plane.edge (x +ℤ pos i)) 0) ⌝ }
 {
     let down = below(x);
-    let up = edge(x, 0);
+    let up = planes::edge(x, 0);
     let n = at_most(down, w);
     for i in 0..n {
         out[i] = l[base];
@@ -59,7 +50,7 @@ fn short_row(l: &[u16], base: usize, x: i16, w: usize, out: &mut [u16])
     ensures { λ _. ⌜ now (out .exit) ≡ tab w (λ i. getD (now (l .entry)) (base + plane.edge (x +ℤ pos i)) 0) ⌝ }
 {
     for i in 0..w {
-        out[i] = l[base + edge(x, i)];
+        out[i] = l[base + planes::edge(x, i as u16)];
     }
 }
 
@@ -83,7 +74,7 @@ fn edge_rows(l: &[u16], stride: usize, x: i16, y: i16, w: usize, h: usize, out: 
     ensures { λ _. ⌜ now (out .exit) ≡ written (h * w) (edgeAt (now (l .entry)) stride x y w) (now (out .entry)) ⌝ }
 {
     for j in 0..h {
-        let base = edge(y, j) * stride;
+        let base = planes::edge(y, j as u16) * stride;
         let from = j * w;
         let to = from + w;
         read_row(l, base, x, w, &mut out[from..to]);

@@ -24,8 +24,11 @@ abbrev μ-loop : tie.MeasureT-loop
 loop-holds : tie.Need-loop-holds Inv-loop μ-loop
 loop-holds c = wrote-start (c .before .before .pre .1)
 
+cast-edge : tie.Need-cast-edge Inv-loop μ-loop
+cast-edge c = omega (arith, c .before .before .before .before .pre .0 .low)
+
 edge-requires : tie.Need-edge-requires Inv-loop μ-loop
-edge-requires c κs = omega (arith, c .before .before .before .before .pre .0 .low)
+edge-requires c κs = tt
 
 -- row j has room in the output
 room :
@@ -127,6 +130,7 @@ edge-rows-spec =
     Inv-loop
     μ-loop
     loop-holds
+    cast-edge
     edge-requires
     mul-base
     mul-from

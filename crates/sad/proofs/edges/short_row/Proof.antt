@@ -22,8 +22,11 @@ abbrev μ-loop : tie.MeasureT-loop
 loop-holds : tie.Need-loop-holds Inv-loop μ-loop
 loop-holds c = filled-start (c .before .before .pre .1)
 
+cast-edge : tie.Need-cast-edge Inv-loop μ-loop
+cast-edge c = omega (arith, c .before .before .before .before .pre .0 .narrow)
+
 edge-requires : tie.Need-edge-requires Inv-loop μ-loop
-edge-requires c κs = omega (arith, c .before .before .before .before .pre .0 .narrow)
+edge-requires c κs = tt
 
 -- the column reads inside the plane
 inside : (c : tie.After-edge Inv-loop μ-loop) → let a = c .before .before .before .before .before .args in a .base + c .edge .result < length (a .l .now)
@@ -76,6 +79,7 @@ short-row-spec =
     Inv-loop
     μ-loop
     loop-holds
+    cast-edge
     edge-requires
     add-out
     mul-out

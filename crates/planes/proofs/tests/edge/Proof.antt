@@ -9,12 +9,12 @@ use lib.Signed.{_≤ℤ_, _<ℤ_}
 use mir.Syntax.{w16, w32, w64}
 use Rattle.integers.proofs.Bits.{lt-held, lt-failed}
 use Rattle.integers.proofs.Expr.{Ex, Known, env, arg, nat, var, add, loc, fit, reads, to-unsigned}
-use Rattle.sad.proofs.Signed.{edge-neg, edge-pos}
-use Rattle.sad.proofs.edges.edge.Statement.{statement}
-use Rattle.sad.proofs.edges.edge.Tie as tie
+use Rattle.planes.proofs.Far.{edge-neg, edge-pos}
+use Rattle.planes.proofs.tests.edge.Statement.{statement}
+use Rattle.planes.proofs.tests.edge.Tie as tie
 
 abbrev ρ : tie.Start → ℕ → Known
-ρ c = env (arg w16 (c .args .p) (c .fits .p) ∷ nat w32 (c .args .i) 63 (omega arith) tt ∷ [])
+ρ c = env (arg w16 (c .args .p) (c .fits .p) ∷ nat w32 (c .args .i) 65535 (omega arith) tt ∷ [])
 
 abbrev at : Ex
 at = add (loc w32 (var 0)) (var 1)
