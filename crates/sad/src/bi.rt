@@ -71,6 +71,18 @@ fn sad_rows(a: &[i16], b: &[u16], b_at: usize, b_stride: usize, w: usize, h: usi
     Totals { sum: sum, any: any }
 }
 
+// The same for a width of 4, with the common height as a literal too: so few samples are added without a loop.
+fn fours(a: &[i16], b: &[u16], b_at: usize, b_stride: usize, h: usize) -> Totals
+    requires { ⌜ TwoBlocks 4 h (length (now a)) 0 4 (length (now b)) «b_at» «b_stride» ⌝ }
+    ensures { λ r. ⌜ BiBlocksTold 4 h (now (a .entry)) (now (b .entry)) «b_at» «b_stride» (r .sum) (r .any) ⌝ }
+    ensures { λ r. ⌜ r .sum ≤ h * 6291392 ⌝ }
+{
+    if h == 4 {
+        return sad_rows(a, b, b_at, b_stride, 4, 4);
+    }
+    sad_rows(a, b, b_at, b_stride, 4, h)
+}
+
 // The same, with the common widths as literals.
 fn sad_block(a: &[i16], b: &[u16], b_at: usize, b_stride: usize, w: usize, h: usize) -> Totals
     requires { ⌜ TwoBlocks w h (length (now a)) 0 w (length (now b)) «b_at» «b_stride» ⌝ }
@@ -82,7 +94,7 @@ fn sad_block(a: &[i16], b: &[u16], b_at: usize, b_stride: usize, w: usize, h: us
         32 => sad_rows(a, b, b_at, b_stride, 32, h),
         16 => sad_rows(a, b, b_at, b_stride, 16, h),
         8 => sad_rows(a, b, b_at, b_stride, 8, h),
-        4 => sad_rows(a, b, b_at, b_stride, 4, h),
+        4 => fours(a, b, b_at, b_stride, h),
         _ => sad_rows(a, b, b_at, b_stride, w, h),
     }
 }
