@@ -6,7 +6,8 @@ use borrow.Author.Needs.{needs}
 use lib.Bits.{bitOr}
 use lib.IntN.{ℤ, pos}
 use lib.ListN.{length}
-use Rattle.sad.specs.Totals.{TwoBlocks, Compared, apartBi, lowMark, cell}
+use Rattle.planes.specs.Blocks.{TwoBlocks, lowMark, cell}
+use Rattle.sad.specs.Totals.{Compared, apartBi}
 use Rattle.sad.proofs.bi.fours.Statement.{statement}
 use Rattle.sad.proofs.bi.fours.Tie as tie
 
