@@ -1,4 +1,4 @@
--- Positions that may be negative: a test of order of ℤ as one of ℕ, and where w places from x on end. Assumes nothing.
+-- Positions that may be negative: a test of order of ℤ as one of ℕ, where w places from x on end, and where a position reads. Assumes nothing.
 use mathlib.Core.Path.{_≡_, refl, sym, _∙_}
 use mathlib.Core.Bool.{false}
 use Prim.Native.Nat.{ℕ, suc, _+_, _≤_}

@@ -1,6 +1,7 @@
-// What every call tests before it reads a sample: sides, depth, and that all that is to be read lies inside its buffer. Document 01, "Refusal
-// numbers" and "Numbers of the domain". All sums are exact: near the largest usize a test fails, and nothing wraps.
-// Differs from the Rust in: the Rust tests nothing.
+// What every call tests before it reads a sample: sides, depth, and that all that is to be read lies inside its buffer; and where a position
+// that may be negative reads. Document 01, "Refusal numbers", "Numbers of the domain" and "Distortion". All sums are exact: near the largest
+// usize a test fails, and nothing wraps.
+// Differs from the Rust in: the Rust tests nothing; positions are added in 32 bits.
 ghost use mathlib.Core.Path.{_≡_};
 ghost use mathlib.Core.Bool.{_||_};
 ghost use Prim.Native.Nat.{_+_, _%_, _≤_};
@@ -8,7 +9,6 @@ ghost use lib.Dec.{ltb, eqb};
 ghost use lib.IntN.{pos, _+ℤ_};
 ghost use Rattle.order.specs.Positions.{reach};
 ghost use Rattle.evc.specs.Tests as of;
-ghost use Rattle.evc.specs.Planes.{pastEdge};
 ghost use Rattle.evc.specs.Planes as plane;
 ghost use Rattle.planes.specs.Areas.{badPlane, outsidePlane, outsideEdges};
 
@@ -97,7 +97,7 @@ fn beyond(x: usize, w: usize, side: usize) -> bool
 // The same from a place that may be negative: both are counted from the lowest i16 on.
 fn past(x: i16, w: usize, side: usize) -> bool
     requires { ⌜ side ≤ 16384 ⌝ }
-    ensures { λ r. ⌜ r ≡ pastEdge x w side ⌝ }
+    ensures { λ r. ⌜ r ≡ plane.pastEdge x w side ⌝ }
 {
     let from = ((x as i32) + 32768) as usize;
     beyond(from, w, side + 32768)
