@@ -5,7 +5,7 @@
 ghost use mathlib.Core.Path.{_≡_};
 ghost use mathlib.Core.List.{[], _∷_};
 ghost use Prim.Native.Nat.{_-_, _/_, _^_};
-ghost use lib.Dec.{leb};
+ghost use lib.Dec.{ltb, leb};
 ghost use Rattle.evc.specs.Answers.{distortionReading};
 ghost use Rattle.evc.specs.declared.Refusal.the-variants as number;
 ghost use Rattle.evc.specs.Tests.{first, reply, _when_};
@@ -21,9 +21,10 @@ pub fn low_mark(v: i16) -> u16
     if v < -16384 { 65535 } else { 0 }
 }
 
-// The SAD of absolute differences that add up to sum, with the OR of their marks.
-pub fn sad_answer(sum: u32, any: u16, depth: u8) -> Distortion
-    ensures { λ r. ⌜ distortionReading r ≡ reply (first (depthTest depth ∷ (number.Sample when leb (2 ^ depth) any) ∷ [])) (sum / 2 ^ (depth - 8)) ⌝ }
+// The SAD of absolute differences that add up to sum, with the OR of their marks. A sum that 32 bits don't hold, which no two blocks have, is
+// SIZE: so the sum is given in 64 bits, in which the loops add rows, and compilers keep the shape of those.
+pub fn sad_answer(sum: u64, any: u16, depth: u8) -> Distortion
+    ensures { λ r. ⌜ distortionReading r ≡ reply (first (depthTest depth ∷ (number.Sample when leb (2 ^ depth) any) ∷ (number.Size when ltb 4294967295 sum) ∷ [])) (sum / 2 ^ (depth - 8)) ⌝ }
 {
     if crate::tests::wrong_depth(depth) {
         return Distortion::Refused(Refusal::Depth);
@@ -31,6 +32,9 @@ pub fn sad_answer(sum: u32, any: u16, depth: u8) -> Distortion
     if any >> depth != 0 {
         return Distortion::Refused(Refusal::Sample);
     }
-    let sad = sum >> (depth - 8);
+    if 4294967295 < sum {
+        return Distortion::Refused(Refusal::Size);
+    }
+    let sad = (sum >> (depth - 8)) as u32;
     Distortion::Value(sad)
 }

@@ -122,15 +122,16 @@ fn near(v: i16, q: u16) -> u16
     if d < 0 { (0 - d) as u16 } else { d as u16 }
 }
 
-// The absolute differences of n values and of the n after them, added in pairs, which 16 bits hold; a pair's two bytes are added apart, so that
-// no sum of this loop has more than 16 bits and each vector holds as many values as it can.
+// The absolute differences of n values and of the n after them, added in pairs, which 16 bits hold. So that each vector holds as many values as
+// it can, no sum of this loop has more: the pairs' high bytes are added, and beside them the pairs with what wraps lost. What that sum has more
+// than the high bytes' is that of the low bytes, which 16 bits hold.
 fn pairs(a: &[i16], b: &[u16], n: usize) -> Totals
     requires { ⌜ TwoRuns n (now a) (now b) ⌝ }
     ensures { λ r. ⌜ RunsTold n (now (a .entry)) (now (b .entry)) (r .sum) (r .any) ⌝ }
     ensures { λ r. ⌜ r .sum ≤ 16842495 ⌝ }
 {
     let mut high: u16 = 0;
-    let mut last: u16 = 0;
+    let mut both: u16 = 0;
     let mut any: u16 = 0;
     let mut low: i16 = 0;
     for i in 0..n {
@@ -142,8 +143,9 @@ fn pairs(a: &[i16], b: &[u16], n: usize) -> Totals
         low = lower(u, lower(v, low));
         let e = near(v, q) + near(u, p);
         high = high + (e >> 8);
-        last = last + (e & 255);
+        both = std::num::wrapping_add_u16(both, e);
     }
+    let last = std::num::wrapping_sub_u16(both, high << 8);
     let sum = (high as u64) * 256 + (last as u64);
     let all = any | planes::low_mark(low);
     Totals { sum: sum, any: all }

@@ -19,7 +19,7 @@ fn end(t: Totals, depth: u8) -> Distortion
     requires { ⌜ (8 ≤ depth) × (depth ≤ 14) × (t .sum < 2 ^ 32) ⌝ }
     ensures { λ r. ⌜ distortionReading r ≡ reply (first ((number.Sample when leb (2 ^ depth) (t .any)) ∷ [])) (t .sum / 2 ^ (depth - 8)) ⌝ }
 {
-    planes::sad_answer(t.sum as u32, t.any, depth)
+    planes::sad_answer(t.sum, t.any, depth)
 }
 
 // Two blocks of samples, after all other tests.

@@ -1,9 +1,9 @@
 -- `pairs` meets its contract. A signed slice tells nothing of the elements that aren't read yet, so the invariant bounds the sums themselves.
 -- Assumes nothing.
-use mathlib.Core.Path.{_≡_, refl, sym, ap, ap₂, _∙_, subst}
-use Prim.Native.Nat.{ℕ, _+_, _-_, _*_, _/_, _%_, _≤_}
+use mathlib.Core.Path.{_≡_, sym, ap, ap₂, _∙_, subst}
+use Prim.Native.Nat.{ℕ, _+_, _-_, _*_}
 use native.Mathlib.Omega.{arith}
-use lib.Bits.{bitAnd, bitOr, and-mask}
+use lib.Bits.{bitOr}
 use lib.IntN.{ℤ, pos}
 use lib.ListN.{getD}
 use mir.Syntax.{w16}
@@ -18,11 +18,11 @@ use Rattle.sad.proofs.bi.pairs.Statement.{statement}
 use Rattle.sad.proofs.bi.pairs.Tie as tie
 
 abbrev Inv-loop : tie.InvT-loop
-Inv-loop a b n high₀ last₀ any₀ low₀ i₀ high last any low i =
-    Paired n (λ k. nearBi (getD a k (pos 0)) (getD b k 0)) (λ k. lowMark (getD a k (pos 0))) (λ k. getD b k 0) high last any (lowMark (toZ w16 low)) i
+Inv-loop a b n high₀ both₀ any₀ low₀ i₀ high both any low i =
+    Paired n (λ k. nearBi (getD a k (pos 0)) (getD b k 0)) (λ k. lowMark (getD a k (pos 0))) (λ k. getD b k 0) high both any (lowMark (toZ w16 low)) i
 
 abbrev μ-loop : tie.MeasureT-loop
-μ-loop a b n high₀ last₀ any₀ low₀ i₀ high last any low i = n - i
+μ-loop a b n high₀ both₀ any₀ low₀ i₀ high both any low i = n - i
 
 loop-holds : tie.Need-loop-holds Inv-loop μ-loop
 unfolding lowMark
@@ -85,10 +85,8 @@ add-high c =
     let l = turn c .loop in
     omega (arith, c .near2 .ensures .1, c .before .near .ensures .1, l .inv .few, turn c .before .before .pre .small)
 
-add-last : tie.Need-add-last Inv-loop μ-loop
-add-last c =
-    let l = turn c .loop in
-    omega (arith, and-mask (sum2 c) 8, l .inv .fewer, turn c .before .before .pre .small)
+wrapping-add-u16-requires : tie.Need-wrapping-add-u16-requires Inv-loop μ-loop
+wrapping-add-u16-requires c κs = tt
 
 add-i : tie.Need-add-i Inv-loop μ-loop
 add-i c = omega arith
@@ -97,7 +95,8 @@ loop-less : tie.Need-loop-less Inv-loop μ-loop
 loop-less c = omega arith
 
 loop-again : tie.Need-loop-again Inv-loop μ-loop
-loop-again c =
+loop-again d =
+    let c = d .before in
     let t = turn c in
     let a = t .before .before .args in
     let l = t .loop in
@@ -121,36 +120,42 @@ loop-again c =
     ∙ ap₂ bitOr (ap lowMark u)
     (ap lowMark (back w16 (one .result) (one .ok)) ∙ one .ensures ∙ ap (λ (z : ℤ). bitOr (lowMark z) (lowMark (toZ w16 (l .low)))) v)
     in
-    subst (λ (m : ℕ). Paired n f M B (l .high + e / 256) (l .last + m) (bitOr (l .any) (bitOr (B i) (B (n + i)))) x (i + 1)) (sym (and-mask e 8))
-    (paired-step n f M B (l .inv) (c .before .before .before .before .before .before .before .before .loop-test .taken) e x p (omega (arith, c .near2 .ensures .1, c .before .near .ensures .1)) s)
+    paired-step n f M B (l .inv) (c .before .before .before .before .before .before .before .before .loop-test .taken) e x (d .wrapping-add-u16 .result) p
+    (omega (arith, c .near2 .ensures .1, c .before .near .ensures .1)) s (d .wrapping-add-u16 .ensures)
+
+wrapping-sub-u16-requires : tie.Need-wrapping-sub-u16-requires Inv-loop μ-loop
+wrapping-sub-u16-requires c κs = tt
 
 cast-sum : tie.Need-cast-sum Inv-loop μ-loop
 cast-sum c = omega arith
 
 mul-sum : tie.Need-mul-sum Inv-loop μ-loop
-mul-sum c = omega (arith, c .before .loop .inv .few, c .before .before .before .pre .small)
+mul-sum c = omega (arith, c .before .before .loop .inv .few, c .before .before .loop .inv .highs .most, c .before .before .before .before .pre .small)
 
 cast-sum-2 : tie.Need-cast-sum-2 Inv-loop μ-loop
 cast-sum-2 c = omega arith
 
 add-sum : tie.Need-add-sum Inv-loop μ-loop
-add-sum c = omega (arith, c .before .loop .inv .few, c .before .loop .inv .fewer, c .before .loop .inv .highs .most, c .before .before .before .pre .small)
+add-sum c =
+    omega (arith, c .wrapping-sub-u16 .ok, c .before .before .loop .inv .few, c .before .before .loop .inv .highs .most, c .before .before .before .before .pre .small)
 
 low-mark-requires : tie.Need-low-mark-requires Inv-loop μ-loop
 low-mark-requires c κs = tt
 
 returns : tie.Need-returns Inv-loop μ-loop
 returns c =
-    let t = c .before .before in
+    let t = c .before .before .before in
     let a = t .before .before .args in
     let l = t .loop in
+    let r = c .before .wrapping-sub-u16 in
     let A : ℕ → ℤ = λ k. getD (a .a .now) k (pos 0) in
     let B : ℕ → ℕ = λ k. getD (a .b .now) k 0 in
     let f : ℕ → ℕ = λ k. nearBi (A k) (B k) in
-    let M : ℕ → ℕ = λ k. lowMark (A k) in (
-      subst (λ (m : ℕ). Told (a .n + a .n) f (λ k. bitOr (M k) (B k)) (l .high * 256 + l .last) (bitOr (l .any) m)) (sym (c .low-mark .ensures))
-          (paired-end (a .n) f M B (l .inv) (c .before .loop-test .left)),
-      omega (arith, l .inv .few, l .inv .fewer, l .inv .highs .most, t .before .before .pre .small),
+    let M : ℕ → ℕ = λ k. lowMark (A k) in
+    let small = t .before .before .pre .small in (
+      subst (λ (m : ℕ). Told (a .n + a .n) f (λ k. bitOr (M k) (B k)) (l .high * 256 + r .result) (bitOr (l .any) m)) (sym (c .low-mark .ensures))
+          (paired-end (a .n) f M B (l .inv) (c .before .before .loop-test .left) small (r .result) (omega (arith, r .ok)) (r .ensures)),
+      omega (arith, r .ok, l .inv .few, l .inv .highs .most, small),
     )
 
 pub pairs-spec : {M : Type 1} → statement M
@@ -176,10 +181,11 @@ pairs-spec =
     near-requires-2
     add-e
     add-high
-    add-last
+    wrapping-add-u16-requires
     add-i
     loop-less
     loop-again
+    wrapping-sub-u16-requires
     cast-sum
     mul-sum
     cast-sum-2

@@ -19,7 +19,7 @@ use Rattle.sad.proofs.rows.ssd_row.Tie as tie
 
 abbrev Inv-loop : tie.InvT-loop
 Inv-loop a b w depth mask shift sum₀ any₀ i₀ sum any i =
-    Running w (λ k. squaredLow depth (getD a k 0) (getD b k 0)) (λ k. bitOr (getD a k 0) (getD b k 0)) sum any i × (sum ≤ i * 65535)
+    Running w (λ k. squaredLow depth (getD a k 0) (getD b k 0)) (λ k. bitOr (getD a k 0) (getD b k 0)) sum any i × (sum ≤ i * 65535) × (shift ≡ 2 * (depth - 8))
 
 abbrev μ-loop : tie.MeasureT-loop
 μ-loop a b w depth mask shift sum₀ any₀ i₀ sum any i = w - i
@@ -52,7 +52,7 @@ mul-shift : tie.Need-mul-shift Inv-loop μ-loop
 mul-shift c = omega (arith, c .before .before .pre .1)
 
 loop-holds : tie.Need-loop-holds Inv-loop μ-loop
-loop-holds c = (running-start, omega arith)
+loop-holds c = (running-start, omega arith, refl)
 
 mul-p : tie.Need-mul-p Inv-loop μ-loop
 mul-p c = omega arith
@@ -109,7 +109,7 @@ loop-less c = omega arith
 loop-again : tie.Need-loop-again Inv-loop μ-loop
 loop-again c =
     let l = c .before .before .before .before .loop in
-    (running-step (l .inv .0) (omega arith) (summand c) refl, omega (arith, most c, l .inv .1))
+    (running-step (l .inv .0) (omega arith) (summand c) refl, omega (arith, most c, l .inv .1), l .inv .2)
 
 cast-all : tie.Need-cast-all Inv-loop μ-loop
 cast-all c = search needs
