@@ -1,5 +1,5 @@
 #!/usr/bin/env python3
-"""Writes the tiles of 4 by 4 and of 2 by 2 of the crate `sad`, code and proofs, from those of 8 by 8: only the side differs.
+"""Writes the tiles of 4 by 4 and of 2 by 2 of the crate `diff`, code and proofs, from those of 8 by 8: only the side differs.
 
     tools/tiles.py            writes the files
     tools/tiles.py --check    writes nothing; fails where a file differs from what would be written
@@ -8,7 +8,7 @@ import re
 import sys
 from pathlib import Path
 
-CRATE = Path(__file__).resolve().parent.parent / "crates" / "sad"
+CRATE = Path(__file__).resolve().parent.parent / "crates" / "diff"
 SIDES = (4, 2)
 
 

@@ -58,7 +58,7 @@ pub(crate) fn diff(
     if !is_good(end) {
         return Said { used, end };
     }
-    let a = sad::evce_diff_16b(
+    let a = diff::evce_diff_16b(
         &org[0..i],
         b.width,
         b.height,
@@ -91,7 +91,7 @@ pub(crate) fn satd(
     if !is_good(end) {
         return Said { used, end };
     }
-    let a = sad::evce_satd_16b(
+    let a = diff::evce_satd_16b(
         &org[0..i],
         b.width,
         b.height,

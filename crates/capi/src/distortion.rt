@@ -2,7 +2,7 @@
 ghost use mathlib.Core.Path.{_≡_};
 ghost use lib.ListN.{length};
 ghost use Rattle.evc.specs.Calls.{diff16bNumber, diff16bExit, satd16b, ssd16b, ssd16i, sad16b, sadBi16b, sad16i, sadBi16i};
-ghost use Rattle.sad.specs.Areas.{planeOf};
+ghost use Rattle.evc.specs.Planes.{planeOf};
 ghost use Rattle.capi.specs.Boundary.{Told};
 use crate::numbers::answer_number;
 use crate::numbers::tell_distortion;
@@ -25,7 +25,7 @@ pub extern "C" fn tv_diff(
     ensures number { λ r. ⌜ r ≡ diff16bNumber (length (now (diff .entry))) (planeOf (now (org .entry)) width height stride) x y «log2_w» «log2_h» (now (cur .entry)) depth ⌝ }
     ensures exit { λ r. ⌜ now (diff .exit) ≡ diff16bExit (planeOf (now (org .entry)) width height stride) x y «log2_w» «log2_h» (now (cur .entry)) depth (now (diff .entry)) ⌝ }
 {
-    answer_number(sad::evce_diff_16b(
+    answer_number(diff::evce_diff_16b(
         org,
         width,
         height,
@@ -57,7 +57,7 @@ pub extern "C" fn tv_satd(
     ensures { λ r. ⌜ Told (satd16b (planeOf (now (org .entry)) width height stride) x y w h (now (cur .entry)) depth) (now (value .entry)) (now (value .exit)) r ⌝ }
 {
     tell_distortion(
-        sad::evce_satd_16b(org, width, height, stride, x, y, w, h, cur, depth),
+        diff::evce_satd_16b(org, width, height, stride, x, y, w, h, cur, depth),
         value,
     )
 }

@@ -6,3 +6,4 @@ pub mod Lowest
 pub mod Jobs
 pub mod AnyOrder
 pub mod SubBlocks
+pub mod Marks

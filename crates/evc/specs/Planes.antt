@@ -17,6 +17,10 @@ pub record Plane (A : Type 0) : Type 0 where
   pub height : ℕ
   pub stride : ℕ
 
+-- the same of its parts, as a function is given it
+abbrev pub planeOf : {A : Type 0} → List A → ℕ → ℕ → ℕ → Plane A
+planeOf l width height stride = record { samples = l; width = width; height = height; stride = stride }
+
 abbrev pub at : {A : Type 0} → A → Plane A → ℕ → ℕ → A
 at d p y x = getD (p .samples) (y * p .stride + x) d
 
@@ -28,7 +32,7 @@ malformed p =
 
 -- a packed block of w by h
 abbrev pub packed : {A : Type 0} → List A → ℕ → ℕ → Plane A
-packed l w h = record { samples = l; width = w; height = h; stride = w }
+packed l w h = planeOf l w h w
 
 -- ---- positions that may lie outside a plane
 -- where a position reads: the larger of it and 0

@@ -1,10 +1,12 @@
 -- From the machine's reading of a signed number's bits to the number: what is stored and read back, what an array's elements are, what a
--- signed test that held or failed says, and the value of `1 << k`. Assumes nothing.
+-- signed test that held or failed says, and the value of `1 << k`;
+-- then when `n >> k` is 0. Assumes nothing.
 use mathlib.Core.Path.{_≡_, sym, subst}
 use mathlib.Core.Bool.{Bool, true, false, not}
 use mathlib.Core.List.{List, [], _∷_}
-use Prim.Native.Nat.{ℕ, zero, suc, _*_, _^_, _%_, _<_}
-use native.Mathlib.Nat.{mod-eq-of-lt}
+use Prim.Native.Nat.{ℕ, zero, suc, _*_, _/_, _^_, _%_, _≤_, _<_}
+use native.Mathlib.Nat.{mod-eq-of-lt, div-eq-of-lt, div-lt-iff-lt-mul}
+use native.Mathlib.Decide.{decLt}
 use native.Mathlib.Omega.{arith}
 use lib.Dec.{T}
 use lib.IntN.{ℤ, pos}
@@ -48,3 +50,14 @@ le-held x y e = leZ-yes (passed e)
 -- `1 << k` below the width is 2^k
 pub one-shl : (w : Width) (k : ℕ) → k < bits w → (1 * 2 ^ k) % 2 ^ bits w ≡ 2 ^ k
 one-shl w k h = let e : 1 * 2 ^ k ≡ 2 ^ k = omega arith in rw e (mod-eq-of-lt (pow-lt h))
+
+-- a shift to the right leaves something exactly where the number reaches the power
+pub div-some : (n k : ℕ) → (n / 2 ^ k ≡ 0 → ⊥) → 2 ^ k ≤ n
+div-some n k h = go (decLt n (2 ^ k))
+  where
+    go : Dec (n < 2 ^ k) → 2 ^ k ≤ n
+    go (yes p) = absurd (h (div-eq-of-lt p))
+    go (no p) = omega arith
+
+pub div-none : (n k : ℕ) → n / 2 ^ k ≡ 0 → n < 2 ^ k
+div-none n k e = let h : n / 2 ^ k < 1 = omega arith in omega (arith, div-lt-iff-lt-mul (pow-pos k) .0 h)

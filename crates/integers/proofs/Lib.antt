@@ -8,10 +8,12 @@ pub mod Bound
 pub mod Floor
 pub mod Bits
 pub mod Clip
+pub mod Parts
 -- sums and lists, and the loops that make them
 pub mod Sum
 pub mod Written
 pub mod Loop
+pub mod Grid
 -- tests that antt computes
 pub mod Every
 -- straight-line machine code, and identities of whole numbers, by reflection

@@ -17,16 +17,16 @@ use Rattle.integers.proofs.Dif.{up, dn}
 use Rattle.integers.proofs.Bits.{lt-failed}
 use Rattle.integers.proofs.Order.{signed}
 use Rattle.integers.proofs.Written.{written-at, written-length, grid-at}
+use Rattle.integers.proofs.Parts.{sum-parts}
 use Rattle.order.specs.Positions.{reach}
-use Rattle.evc.specs.Planes.{edge, pastEdge, atEdges}
-use Rattle.sad.specs.Areas.{planeOf, badPlane, outsideEdges}
-use Rattle.sad.specs.Totals.{cell}
-use Rattle.sad.specs.Rests.{strided}
+use Rattle.order.proofs.Tests.{neither-left, neither-right}
+use Rattle.evc.specs.Planes.{edge, pastEdge, atEdges, planeOf}
+use Rattle.planes.specs.Areas.{badPlane, outsideEdges}
+use Rattle.planes.specs.Blocks.{cell, strided}
+use Rattle.planes.proofs.Planes.{well-formed, rows-flat}
+use Rattle.planes.proofs.Far.{not-past}
+use Rattle.planes.proofs.Replies.{Alike}
 use Rattle.sad.specs.Edges.{edgeCell, edgeAt, edged, EdgesIn, Plain}
-use Rattle.sad.proofs.Booleans.{or-left, or-right, well-formed}
-use Rattle.sad.proofs.Signed.{sum-parts, not-past}
-use Rattle.sad.proofs.Grid.{rows-flat}
-use Rattle.sad.proofs.Replies.{Alike}
 
 -- a position that doesn't reach past a side reads below it
 edge-below : (x : ℤ) (w i side : ℕ) → 1 ≤ side → i < w → up x + w ≤ side + dn x → edge (x +ℤ pos i) < side
@@ -41,10 +41,10 @@ pub edges-in :
     EdgesIn n stride x y w h
 edges-in n width height stride x y w h p q e =
     let bad = badPlane n width height stride in
-    let two = or-left (bad || pastEdge x w width) (pastEdge y h height) e in
-    let f = well-formed n width height stride (or-left bad (pastEdge x w width) two) in
-    let a = not-past x w width (or-right bad (pastEdge x w width) two) in
-    let b = not-past y h height (or-right (bad || pastEdge x w width) (pastEdge y h height) e) in
+    let two = neither-left (bad || pastEdge x w width) (pastEdge y h height) e in
+    let f = well-formed n width height stride (neither-left bad (pastEdge x w width) two) in
+    let a = not-past x w width (neither-right bad (pastEdge x w width) two) in
+    let b = not-past y h height (neither-right (bad || pastEdge x w width) (pastEdge y h height) e) in
     record {
       wide = p .0;
       high = q .0;
@@ -74,7 +74,7 @@ pub is-plain : (x y : ℤ) → ltZ x (pos 0) || ltZ y (pos 0) ≡ false → Plai
 is-plain x y e =
     let a = ltZ x (pos 0) in
     let b = ltZ y (pos 0) in
-    record { across = lt-failed x (pos 0) (or-left a b e); down = lt-failed y (pos 0) (or-right a b e) }
+    record { across = lt-failed x (pos 0) (neither-left a b e); down = lt-failed y (pos 0) (neither-right a b e) }
 
 sum-edge : (x : ℤ) (i : ℕ) → pos 0 ≤ℤ x → edge (x +ℤ pos i) ≡ natAbs x + i
 sum-edge (pos n) i p = refl

@@ -1,22 +1,17 @@
 -- Rows of a block: what a row's values are, what two rows told says of two blocks, and how much the rows may add up to. Assumes nothing.
 use mathlib.Core.Path.{_≡_, sym, ap, ap₂, _∙_, subst}
 use mathlib.Core.List.{List}
-use Prim.Native.Nat.{ℕ, _+_, _-_, _*_, _≤_, _<_}
+use Prim.Native.Nat.{ℕ, _+_, _*_, _≤_, _<_}
 use native.Mathlib.Nat.{le-trans, le-of-eq, mul-le-mul-right}
 use native.Mathlib.Omega.{arith}
-use lib.Bits.{bitOr}
 use lib.ListN.{length, getD, length-take, length-drop}
 use lib.Seq.{getD-take, getD-drop}
 use Rattle.integers.specs.Sum.{ofN+, sumN}
+use Rattle.integers.specs.Or.{ofOr}
 use Rattle.integers.proofs.Sum.{sum-ext, sum-le}
-use Rattle.order.specs.Positions.{reach}
-use Rattle.sad.specs.Or.{ofOr, orN}
-use Rattle.sad.specs.Small.{SmallRows, SmallBlocks, Ready}
-use Rattle.sad.specs.Totals.{Told, Compared, TwoRows, TwoBlocks, rowOf, cell}
-
--- row j ends no later than the last row
-pub row-in : (s t w h j : ℕ) → j < h → s + j * t + w ≤ reach s w t h
-row-in s t w h j p = let q : j * t ≤ (h - 1) * t = mul-le-mul-right t (omega arith) in omega arith
+use Rattle.planes.specs.Blocks.{TwoBlocks, cell}
+use Rattle.planes.proofs.Planes.{in-one, in-two}
+use Rattle.sad.specs.Totals.{Told, Compared, TwoRows, rowOf}
 
 module _ {A : Type 0} (l : List A) (s t j w : ℕ) where
   pub row-length : s + j * t + w ≤ length l → length (rowOf l s t j w) ≡ w
@@ -27,14 +22,7 @@ module _ {A : Type 0} (l : List A) (s t j w : ℕ) where
   unfolding rowOf cell
   row-at d i h = rw (getD-take, getD-drop)
 
--- of two blocks: where each row ends, and that two rows are as long as the blocks are wide
-module _ {w h m s t n s′ t′ : ℕ} (k : TwoBlocks w h m s t n s′ t′) {j : ℕ} (p : j < h) where
-  pub in-one : s + j * t + w ≤ m
-  in-one = le-trans (row-in s t w h j p) (k .one)
-
-  pub in-two : s′ + j * t′ + w ≤ n
-  in-two = le-trans (row-in s′ t′ w h j p) (k .two)
-
+-- two rows are as long as the blocks are wide
 pub two-rows :
     {A B : Type 0} (w h : ℕ) (a : List A) (s t : ℕ) (b : List B) (s′ t′ : ℕ) → TwoBlocks w h (length a) s t (length b) s′ t′ →
     (j : ℕ) → j < h → (p : List A) (q : List B) → p ≡ rowOf a s t j w → q ≡ rowOf b s′ t′ j w → TwoRows w p q
@@ -73,28 +61,3 @@ compared-at w k h f g {s} {m} e t = subst (λ (n : ℕ). Compared n h f g s m) (
 -- a block of at most 64 by 64
 pub compared-most : (w h b : ℕ) (f g : ℕ → ℕ → ℕ) {s m : ℕ} → Compared w h f g s m → w ≤ 64 → h ≤ 64 → ((j i : ℕ) → f j i ≤ b) → s ≤ 64 * (64 * b)
 compared-most w h b f g t p q k = told-most (64 * b) t q (λ j. row-most w b (f j) p (k j))
-
--- rows of blocks whose samples are small
-pub small-rows :
-    (w h : ℕ) (a : List ℕ) (s t : ℕ) (b : List ℕ) (s′ t′ : ℕ) → SmallBlocks w h a s t b s′ t′ → (j : ℕ) → j < h → (p q : List ℕ) → p ≡ rowOf a s t j w →
-    q ≡ rowOf b s′ t′ j w → SmallRows w p q
-small-rows w h a s t b s′ t′ k j n p q e f = record {
-  first = λ i m. let r : getD p i 0 ≡ cell 0 a s t j i = ap (λ (l : List ℕ). getD l i 0) e ∙ row-at a s t j w 0 i m in omega (arith, k .first j i n m);
-  second = λ i m. let r : getD q i 0 ≡ cell 0 b s′ t′ j i = ap (λ (l : List ℕ). getD l i 0) f ∙ row-at b s′ t′ j w 0 i m in omega (arith, k .second j i n m);
-}
-
--- a width that a literal names
-pub ready-at : (w k h : ℕ) (a : List ℕ) (s t : ℕ) (b : List ℕ) (s′ t′ n : ℕ) → w ≡ k → Ready w h a s t b s′ t′ n → Ready k h a s t b s′ t′ n
-ready-at w k h a s t b s′ t′ n e r = subst (λ (x : ℕ). Ready x h a s t b s′ t′ n) e r
-
--- the OR of two rows, said of the blocks that they are rows of
-pub marked-rows :
-    (a : List ℕ) (s t : ℕ) (b : List ℕ) (s′ t′ j w : ℕ) (p q : List ℕ) → p ≡ rowOf a s t j w → q ≡ rowOf b s′ t′ j w →
-    orN w (λ i. bitOr (getD p i 0) (getD q i 0)) ≡ orN w (λ i. bitOr (cell 0 a s t j i) (cell 0 b s′ t′ j i))
-marked-rows a s t b s′ t′ j w p q e f =
-    sum-ext ofOr w (λ i. bitOr (getD p i 0) (getD q i 0)) (λ i. bitOr (cell 0 a s t j i) (cell 0 b s′ t′ j i))
-    (λ i n. ap₂ bitOr (ap (λ (l : List ℕ). getD l i 0) e ∙ row-at a s t j w 0 i n) (ap (λ (l : List ℕ). getD l i 0) f ∙ row-at b s′ t′ j w 0 i n))
-
--- a width that a literal names
-pub marks-at : (w k h : ℕ) (g : ℕ → ℕ → ℕ) {m : ℕ} → w ≡ k → m ≡ orN h (λ j. orN k (g j)) → m ≡ orN h (λ j. orN w (g j))
-marks-at w k h g e p = p ∙ ap (λ (n : ℕ). orN h (λ j. orN n (g j))) (sym e)

@@ -1,27 +1,17 @@
--- Sides that are given by logarithms: how large they are, and how a call of SSD ends. A and B give the two blocks by their sides, so that code
+-- How a call of SSD ends, whose sides are given by logarithms. A and B give the two blocks by their sides, so that code
 -- may speak of w and h where the definitions speak of powers. Assumes nothing.
 use mathlib.Core.Path.{_≡_, refl, ap, ap₂, _∙_}
 use mathlib.Core.Bool.{true, false, _||_}
-use Prim.Native.Nat.{ℕ, _*_, _-_, _^_, _≤_}
-use native.Mathlib.Omega.{arith}
+use Prim.Native.Nat.{ℕ, _*_, _-_, _^_}
 use lib.Dec.{ltb}
 use lib.IntN.{ℤ, pos}
-use lib.Pow.{pow-pos, pow-mono}
-use borrow.Author.Tests.{ltb-false}
 use Rattle.evc.specs.Answers.{Reply, refused}
 use Rattle.evc.specs.Tests.{first, reply, outside, logSizes}
 use Rattle.evc.specs.Planes.{Block}
 use Rattle.evc.specs.Differences.{difference, ssdTotal}
 use Rattle.evc.specs.Calls.{compareTests, sampleTests, ssdReply}
-use Rattle.sad.specs.Rests.{rest}
-use Rattle.sad.proofs.Booleans.{or-left, or-right}
-use Rattle.sad.proofs.Replies.{at-size, at-depth, at-area, at-second, at-rest}
-
-pub logs-small : (j k : ℕ) → ltb 6 j || ltb 6 k ≡ false → (j ≤ 6) × (k ≤ 6)
-logs-small j k e = (ltb-false 6 j (or-left (ltb 6 j) (ltb 6 k) e), ltb-false 6 k (or-right (ltb 6 j) (ltb 6 k) e))
-
-pub side-small : (k n : ℕ) → n ≡ 2 ^ k → k ≤ 6 → (1 ≤ n) × (n ≤ 64)
-side-small k n e h = let p = pow-pos k in let q : 2 ^ k ≤ 2 ^ 6 = pow-mono h in (omega arith, omega arith)
+use Rattle.planes.specs.Blocks.{rest}
+use Rattle.planes.proofs.Replies.{at-size, at-depth, at-area, at-second, at-rest}
 
 module _ (logw logh depth : ℕ) (A B : ℕ → ℕ → Block) where
   -- the promised answer

@@ -4,8 +4,8 @@ use mathlib.Core.Path.{_≡_}
 use Prim.Native.Nat.{ℕ, _+_, _*_, _≤_, _<_}
 use lib.Bits.{bitOr}
 use Rattle.integers.specs.Sum.{ofN+}
+use Rattle.integers.specs.Or.{ofOr}
 use Rattle.integers.proofs.Loop.{Summed, summed-start, summed-step, summed-end, summed-next}
-use Rattle.sad.specs.Or.{ofOr}
 use Rattle.sad.specs.Totals.{Told}
 
 pub record Running (w : ℕ) (f g : ℕ → ℕ) (sum any k : ℕ) : Type 0 where

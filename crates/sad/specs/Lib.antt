@@ -1,7 +1,5 @@
--- What the contracts of the helpers below src/ cite, beyond document 01's own definitions (evc/specs).
-pub mod Or
+-- What the contracts of the helpers below src/ cite, beyond document 01's own definitions (evc/specs) and those of planes.
 pub mod Totals
-pub mod Areas
 pub mod Rests
-pub mod Small
 pub mod Edges
+pub mod Near

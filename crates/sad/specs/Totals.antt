@@ -4,12 +4,10 @@ use mathlib.Core.List.{List}
 use Prim.Native.Nat.{ℕ, _+_, _*_, _/_, _^_, _≤_}
 use lib.Bits.{bitOr}
 use lib.ListN.{length, getD, take, drop}
-use mathlib.Core.Bool.{cond}
 use lib.IntN.{ℤ, pos, natAbs, _-ℤ_}
 use Rattle.integers.specs.Sum.{sumN}
-use Rattle.order.specs.Positions.{reach}
-use Rattle.evc.specs.Planes.{tooLow}
-use Rattle.sad.specs.Or.{orN}
+use Rattle.integers.specs.Or.{orN}
+use Rattle.planes.specs.Blocks.{cell, lowMark}
 
 -- of two samples: how far they are apart, and that squared and divided by 2^shift
 unfoldable pub apart : ℕ → ℕ → ℕ
@@ -18,12 +16,9 @@ apart p q = natAbs (pos p -ℤ pos q)
 unfoldable pub squared : ℕ → ℕ → ℕ → ℕ
 squared shift p q = apart p q * apart p q / 2 ^ shift
 
--- of a bi-prediction value and a sample: how far they are apart; and a mark that no depth holds where the value is too low
+-- of a bi-prediction value and a sample: how far they are apart
 unfoldable pub apartBi : ℤ → ℕ → ℕ
 apartBi v q = natAbs (v -ℤ pos q)
-
-unfoldable pub lowMark : ℤ → ℕ
-lowMark v = cond (tooLow v) 65535 0
 
 -- ---- rows
 -- two rows of w values
@@ -44,24 +39,10 @@ RowsTold f w a b sum any = Told w (λ i. f (getD a i 0) (getD b i 0)) (λ i. bit
 abbrev pub BiRowsTold : ℕ → List ℤ → List ℕ → ℕ → ℕ → Type 0
 BiRowsTold w a b sum any = Told w (λ i. apartBi (getD a i (pos 0)) (getD b i 0)) (λ i. bitOr (lowMark (getD a i (pos 0))) (getD b i 0)) sum any
 
--- the OR of all samples of two rows
-abbrev pub rowsMarks : ℕ → List ℕ → List ℕ → ℕ
-rowsMarks w a b = orN w (λ i. bitOr (getD a i 0) (getD b i 0))
-
 -- ---- blocks, whose rows stand a stride apart in their buffer, from a start on
--- row j, of w values, and the value in row j, column i
+-- row j, of w values
 unfoldable pub rowOf : {A : Type 0} → List A → ℕ → ℕ → ℕ → ℕ → List A
 rowOf l start stride j w = take w (drop (start + j * stride) l)
-
-unfoldable pub cell : {A : Type 0} → A → List A → ℕ → ℕ → ℕ → ℕ → A
-cell d l start stride j i = getD l (start + j * stride + i) d
-
--- two blocks of w by h lie inside buffers of m and n values
-pub record TwoBlocks (w h m start stride n start′ stride′ : ℕ) : Type 0 where
-  pub narrow : w ≤ 64
-  pub low : h ≤ 64
-  pub one : reach start w stride h ≤ m
-  pub two : reach start′ w stride′ h ≤ n
 
 -- what f gives at w by h places, added row by row, and what g gives there, ORed
 abbrev pub Compared : ℕ → ℕ → (ℕ → ℕ → ℕ) → (ℕ → ℕ → ℕ) → ℕ → ℕ → Type 0
@@ -75,7 +56,3 @@ BlocksTold f w h a s t b s′ t′ sum any =
 abbrev pub BiBlocksTold : ℕ → ℕ → List ℤ → List ℕ → ℕ → ℕ → ℕ → ℕ → Type 0
 BiBlocksTold w h a b s t sum any =
     Compared w h (λ j i. apartBi (cell (pos 0) a 0 w j i) (cell 0 b s t j i)) (λ j i. bitOr (lowMark (cell (pos 0) a 0 w j i)) (cell 0 b s t j i)) sum any
-
--- the OR of all samples of two blocks
-abbrev pub blocksMarks : ℕ → ℕ → List ℕ → ℕ → ℕ → List ℕ → ℕ → ℕ → ℕ
-blocksMarks w h a s t b s′ t′ = orN h (λ j. orN w (λ i. bitOr (cell 0 a s t j i) (cell 0 b s′ t′ j i)))

@@ -4,7 +4,9 @@
 ghost use mathlib.Core.Path.{_≡_};
 ghost use Prim.Native.Nat.{_≤_};
 ghost use lib.ListN.{length};
-ghost use Rattle.sad.specs.Totals.{TwoBlocks, BlocksTold, blocksMarks, apart, squared};
+ghost use Rattle.planes.specs.Blocks.{TwoBlocks};
+ghost use Rattle.sad.specs.Totals.{BlocksTold, apart};
+ghost use Rattle.sad.specs.Near.{squaredLow};
 use crate::rows::Totals;
 
 fn sad_rows(
@@ -67,11 +69,11 @@ fn ssd_rows(
     b_stride: usize,
     w: usize,
     h: usize,
-    shift: u8,
+    depth: u8,
 ) -> Totals
     requires { ⌜ TwoBlocks w h (length (now a)) «a_at» «a_stride» (length (now b)) «b_at» «b_stride» ⌝ }
-    requires { ⌜ shift ≤ 12 ⌝ }
-    ensures { λ r. ⌜ BlocksTold (squared shift) w h (now (a .entry)) «a_at» «a_stride» (now (b .entry)) «b_at» «b_stride» (r .sum) (r .any) ⌝ }
+    requires { ⌜ (8 ≤ depth) × (depth ≤ 14) ⌝ }
+    ensures { λ r. ⌜ BlocksTold (squaredLow depth) w h (now (a .entry)) «a_at» «a_stride» (now (b .entry)) «b_at» «b_stride» (r .sum) (r .any) ⌝ }
 {
     let mut sum: u64 = 0;
     let mut any: u16 = 0;
@@ -80,7 +82,7 @@ fn ssd_rows(
             crate::rows::row(a, a_at, a_stride, j, w),
             crate::rows::row(b, b_at, b_stride, j, w),
             w,
-            shift,
+            depth,
         );
         sum = sum + t.sum;
         any = any | t.any;
@@ -88,7 +90,7 @@ fn ssd_rows(
     Totals { sum: sum, any: any }
 }
 
-// SSD: the squared differences, each divided by 2^shift, added.
+// SSD: the squared differences, each divided by 2^(2 · (depth - 8)), added.
 pub(crate) fn ssd_block(
     a: &[u16],
     a_at: usize,
@@ -98,67 +100,18 @@ pub(crate) fn ssd_block(
     b_stride: usize,
     w: usize,
     h: usize,
-    shift: u8,
+    depth: u8,
 ) -> Totals
     requires { ⌜ TwoBlocks w h (length (now a)) «a_at» «a_stride» (length (now b)) «b_at» «b_stride» ⌝ }
-    requires { ⌜ shift ≤ 12 ⌝ }
-    ensures { λ r. ⌜ BlocksTold (squared shift) w h (now (a .entry)) «a_at» «a_stride» (now (b .entry)) «b_at» «b_stride» (r .sum) (r .any) ⌝ }
+    requires { ⌜ (8 ≤ depth) × (depth ≤ 14) ⌝ }
+    ensures { λ r. ⌜ BlocksTold (squaredLow depth) w h (now (a .entry)) «a_at» «a_stride» (now (b .entry)) «b_at» «b_stride» (r .sum) (r .any) ⌝ }
 {
     match w {
-        64 => ssd_rows(a, a_at, a_stride, b, b_at, b_stride, 64, h, shift),
-        32 => ssd_rows(a, a_at, a_stride, b, b_at, b_stride, 32, h, shift),
-        16 => ssd_rows(a, a_at, a_stride, b, b_at, b_stride, 16, h, shift),
-        8 => ssd_rows(a, a_at, a_stride, b, b_at, b_stride, 8, h, shift),
-        4 => ssd_rows(a, a_at, a_stride, b, b_at, b_stride, 4, h, shift),
-        _ => ssd_rows(a, a_at, a_stride, b, b_at, b_stride, w, h, shift),
-    }
-}
-
-fn any_rows(
-    a: &[u16],
-    a_at: usize,
-    a_stride: usize,
-    b: &[u16],
-    b_at: usize,
-    b_stride: usize,
-    w: usize,
-    h: usize,
-) -> u16
-    requires { ⌜ TwoBlocks w h (length (now a)) «a_at» «a_stride» (length (now b)) «b_at» «b_stride» ⌝ }
-    ensures { λ r. ⌜ r ≡ blocksMarks w h (now (a .entry)) «a_at» «a_stride» (now (b .entry)) «b_at» «b_stride» ⌝ }
-{
-    let mut any: u16 = 0;
-    for j in 0..h {
-        any = any
-            | crate::rows::any_row(
-                crate::rows::row(a, a_at, a_stride, j, w),
-                crate::rows::row(b, b_at, b_stride, j, w),
-                w,
-            );
-    }
-    any
-}
-
-// The OR of all samples, for a call that tests them before it forms a difference.
-pub(crate) fn any_block(
-    a: &[u16],
-    a_at: usize,
-    a_stride: usize,
-    b: &[u16],
-    b_at: usize,
-    b_stride: usize,
-    w: usize,
-    h: usize,
-) -> u16
-    requires { ⌜ TwoBlocks w h (length (now a)) «a_at» «a_stride» (length (now b)) «b_at» «b_stride» ⌝ }
-    ensures { λ r. ⌜ r ≡ blocksMarks w h (now (a .entry)) «a_at» «a_stride» (now (b .entry)) «b_at» «b_stride» ⌝ }
-{
-    match w {
-        64 => any_rows(a, a_at, a_stride, b, b_at, b_stride, 64, h),
-        32 => any_rows(a, a_at, a_stride, b, b_at, b_stride, 32, h),
-        16 => any_rows(a, a_at, a_stride, b, b_at, b_stride, 16, h),
-        8 => any_rows(a, a_at, a_stride, b, b_at, b_stride, 8, h),
-        4 => any_rows(a, a_at, a_stride, b, b_at, b_stride, 4, h),
-        _ => any_rows(a, a_at, a_stride, b, b_at, b_stride, w, h),
+        64 => ssd_rows(a, a_at, a_stride, b, b_at, b_stride, 64, h, depth),
+        32 => ssd_rows(a, a_at, a_stride, b, b_at, b_stride, 32, h, depth),
+        16 => ssd_rows(a, a_at, a_stride, b, b_at, b_stride, 16, h, depth),
+        8 => ssd_rows(a, a_at, a_stride, b, b_at, b_stride, 8, h, depth),
+        4 => ssd_rows(a, a_at, a_stride, b, b_at, b_stride, 4, h, depth),
+        _ => ssd_rows(a, a_at, a_stride, b, b_at, b_stride, w, h, depth),
     }
 }

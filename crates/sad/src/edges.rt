@@ -11,15 +11,6 @@ ghost use Rattle.integers.specs.Lists.{tab, written};
 ghost use Rattle.evc.specs.Planes as plane;
 ghost use Rattle.sad.specs.Edges.{edgeAt, behind, Negative, RowEdges, EdgesIn, Plain};
 
-// Where the i-th position from p on reads: the larger of it and 0.
-fn edge(p: i16, i: usize) -> usize
-    requires { ⌜ i < 64 ⌝ }
-    ensures { λ r. ⌜ r ≡ plane.edge (p +ℤ pos i) ⌝ }
-{
-    let at = (p as i32) + (i as i32);
-    if at < 0 { 0 } else { at as usize }
-}
-
 // How many positions from x on are negative.
 fn below(x: i16) -> usize
     ensures { λ r. ⌜ (r ≡ behind x) × (r ≤ 32768) ⌝ }
@@ -42,7 +33,7 @@ fn edge_row(l: &[u16], base: usize, x: i16, w: usize, out: &mut [u16])
     ensures { λ _. ⌜ now (out .exit) ≡ tab w (λ i. getD (now (l .entry)) (base + plane.edge (x +ℤ pos i)) 0) ⌝ }
 {
     let down = below(x);
-    let up = edge(x, 0);
+    let up = planes::edge(x, 0);
     let n = at_most(down, w);
     for i in 0..n {
         out[i] = l[base];
@@ -52,7 +43,45 @@ fn edge_row(l: &[u16], base: usize, x: i16, w: usize, out: &mut [u16])
     }
 }
 
+// The same, sample by sample: for a width that is a small literal, so that each column is found once for all rows.
+fn short_row(l: &[u16], base: usize, x: i16, w: usize, out: &mut [u16])
+    requires { ⌜ RowEdges (length (now l)) base x w ⌝ }
+    requires { ⌜ length (now out) ≡ w ⌝ }
+    ensures { λ _. ⌜ now (out .exit) ≡ tab w (λ i. getD (now (l .entry)) (base + plane.edge (x +ℤ pos i)) 0) ⌝ }
+{
+    for i in 0..w {
+        out[i] = l[base + planes::edge(x, i as u16)];
+    }
+}
+
+// The same, by the one that suits the width.
+fn read_row(l: &[u16], base: usize, x: i16, w: usize, out: &mut [u16])
+    requires { ⌜ RowEdges (length (now l)) base x w ⌝ }
+    requires { ⌜ length (now out) ≡ w ⌝ }
+    ensures { λ _. ⌜ now (out .exit) ≡ tab w (λ i. getD (now (l .entry)) (base + plane.edge (x +ℤ pos i)) 0) ⌝ }
+{
+    if w <= 16 {
+        short_row(l, base, x, w, &mut out[..]);
+    } else {
+        edge_row(l, base, x, w, &mut out[..]);
+    }
+}
+
 // The block, row after row, into the first places of out.
+fn edge_rows(l: &[u16], stride: usize, x: i16, y: i16, w: usize, h: usize, out: &mut [u16])
+    requires { ⌜ EdgesIn (length (now l)) stride x y w h ⌝ }
+    requires { ⌜ h * w ≤ length (now out) ⌝ }
+    ensures { λ _. ⌜ now (out .exit) ≡ written (h * w) (edgeAt (now (l .entry)) stride x y w) (now (out .entry)) ⌝ }
+{
+    for j in 0..h {
+        let base = planes::edge(y, j as u16) * stride;
+        let from = j * w;
+        let to = from + w;
+        read_row(l, base, x, w, &mut out[from..to]);
+    }
+}
+
+// The same, with small widths as literals.
 pub(crate) fn edge_block(
     l: &[u16],
     stride: usize,
@@ -66,11 +95,12 @@ pub(crate) fn edge_block(
     requires { ⌜ h * w ≤ length (now out) ⌝ }
     ensures { λ _. ⌜ now (out .exit) ≡ written (h * w) (edgeAt (now (l .entry)) stride x y w) (now (out .entry)) ⌝ }
 {
-    for j in 0..h {
-        let base = edge(y, j) * stride;
-        let from = j * w;
-        let to = from + w;
-        edge_row(l, base, x, w, &mut out[from..to]);
+    match w {
+        16 => edge_rows(l, stride, x, y, 16, h, out),
+        8 => edge_rows(l, stride, x, y, 8, h, out),
+        4 => edge_rows(l, stride, x, y, 4, h, out),
+        2 => edge_rows(l, stride, x, y, 2, h, out),
+        _ => edge_rows(l, stride, x, y, w, h, out),
     }
 }
 

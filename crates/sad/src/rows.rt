@@ -1,11 +1,12 @@
 // One row of two blocks: the sums that SAD and SSD add up, undivided, and beside each sum what the test of SAMPLE looks at. Document 01,
 // "Distortion".
 // Differs from the Rust in: a row is a part of its buffer; samples are tested by the OR of all that are read, compared once by the caller, so
-// that these loops have no way out and become vector code.
+// that these loops have no way out and become vector code. SSD's samples are first cut to the depth's bits, which changes only what is refused.
 ghost use mathlib.Core.Path.{_≡_};
-ghost use Prim.Native.Nat.{_+_, _*_, _≤_};
+ghost use Prim.Native.Nat.{_+_, _*_, _<_, _≤_};
 ghost use lib.ListN.{length};
-ghost use Rattle.sad.specs.Totals.{rowOf, RowsTold, rowsMarks, TwoRows, apart, squared};
+ghost use Rattle.sad.specs.Totals.{rowOf, RowsTold, TwoRows, apart};
+ghost use Rattle.sad.specs.Near.{squaredLow};
 
 // Row j of a block whose rows stand a stride apart in l, from `at` on.
 pub(crate) fn row(l: &[u16], at: usize, stride: usize, j: usize, w: usize) -> &[u16]
@@ -47,32 +48,33 @@ pub(crate) fn sad_row(a: &[u16], b: &[u16], w: usize) -> Totals
     Totals { sum: all, any: any }
 }
 
-// The squared differences of two rows, each divided by 2^shift, added.
-pub(crate) fn ssd_row(a: &[u16], b: &[u16], w: usize, shift: u8) -> Totals
-    requires { ⌜ TwoRows w (now a) (now b) ⌝ }
-    requires { ⌜ shift ≤ 12 ⌝ }
-    ensures { λ r. ⌜ RowsTold (squared shift) w (now (a .entry)) (now (b .entry)) (r .sum) (r .any) ⌝ }
+// The square of a difference of samples that were cut to 14 bits.
+fn square(p: u16, q: u16) -> u32
+    requires { ⌜ (p < 16384) × (q < 16384) ⌝ }
+    ensures { λ r. ⌜ r ≡ apart p q * apart p q ⌝ }
 {
-    let mut sum: u64 = 0;
+    let d = (p as i16) - (q as i16);
+    let e = d as i32;
+    (e * e) as u32
+}
+
+// The squared differences of two rows, each divided by 2^(2 · (depth - 8)), added. Samples are cut to the depth's bits: so each summand has 16
+// bits and a row's sum 32, and a sample that is changed by it is one that the caller refuses.
+pub(crate) fn ssd_row(a: &[u16], b: &[u16], w: usize, depth: u8) -> Totals
+    requires { ⌜ TwoRows w (now a) (now b) ⌝ }
+    requires { ⌜ (8 ≤ depth) × (depth ≤ 14) ⌝ }
+    ensures { λ r. ⌜ RowsTold (squaredLow depth) w (now (a .entry)) (now (b .entry)) (r .sum) (r .any) ⌝ }
+{
+    let mask = (1u16 << depth) - 1;
+    let shift = 2 * (depth - 8);
+    let mut sum: u32 = 0;
     let mut any: u16 = 0;
     for i in 0..w {
         let p = a[i];
         let q = b[i];
         any = any | (p | q);
-        let d = distance(p, q) as u32;
-        sum = sum + (((d * d) >> shift) as u64);
+        sum = sum + (square(p & mask, q & mask) >> shift);
     }
-    Totals { sum: sum, any: any }
-}
-
-// The OR of all samples of two rows.
-pub(crate) fn any_row(a: &[u16], b: &[u16], w: usize) -> u16
-    requires { ⌜ TwoRows w (now a) (now b) ⌝ }
-    ensures { λ r. ⌜ r ≡ rowsMarks w (now (a .entry)) (now (b .entry)) ⌝ }
-{
-    let mut any: u16 = 0;
-    for i in 0..w {
-        any = any | (a[i] | b[i]);
-    }
-    any
+    let all = sum as u64;
+    Totals { sum: all, any: any }
 }

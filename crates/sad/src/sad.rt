@@ -3,7 +3,7 @@
 ghost use mathlib.Core.Path.{_≡_};
 ghost use Rattle.evc.specs.Answers.{distortionReading};
 ghost use Rattle.evc.specs.Calls.{sad16b, sad16i, sadBi16b, sadBi16i};
-ghost use Rattle.sad.specs.Areas.{planeOf};
+ghost use Rattle.evc.specs.Planes.{planeOf};
 use evc::Distortion;
 use evc::Refusal;
 
@@ -26,16 +26,16 @@ pub fn evce_sad_16b(
 ) -> Distortion
     ensures { λ r. ⌜ distortionReading r ≡ sad16b (planeOf (now (org .entry)) width height stride) x y (planeOf (now (reference .entry)) «ref_width» «ref_height» «ref_stride») «mv_x» «mv_y» w h depth ⌝ }
 {
-    if crate::tests::sides(w, h) {
+    if planes::sides(w, h) {
         return Distortion::Refused(Refusal::Size);
     }
-    if crate::tests::wrong_depth(depth) {
+    if planes::wrong_depth(depth) {
         return Distortion::Refused(Refusal::Depth);
     }
-    if crate::tests::outside_plane(org.len(), width, height, stride, x, y, w, h) {
+    if planes::outside_plane(org.len(), width, height, stride, x, y, w, h) {
         return Distortion::Refused(Refusal::Area);
     }
-    if crate::tests::outside_edges(
+    if planes::outside_edges(
         reference.len(),
         ref_width,
         ref_height,
@@ -75,16 +75,16 @@ pub fn evce_sad_bi_16b(
 ) -> Distortion
     ensures { λ r. ⌜ distortionReading r ≡ sadBi16b (now (bi .entry)) (planeOf (now (reference .entry)) «ref_width» «ref_height» «ref_stride») «mv_x» «mv_y» w h depth ⌝ }
 {
-    if crate::tests::sides(w, h) {
+    if planes::sides(w, h) {
         return Distortion::Refused(Refusal::Size);
     }
-    if crate::tests::wrong_depth(depth) {
+    if planes::wrong_depth(depth) {
         return Distortion::Refused(Refusal::Depth);
     }
-    if crate::tests::malformed(bi.len(), w, h, w) {
+    if planes::malformed(bi.len(), w, h, w) {
         return Distortion::Refused(Refusal::Area);
     }
-    if crate::tests::outside_edges(
+    if planes::outside_edges(
         reference.len(),
         ref_width,
         ref_height,
@@ -113,16 +113,16 @@ pub fn evce_sad_16i(
 ) -> Distortion
     ensures { λ r. ⌜ distortionReading r ≡ sad16i (planeOf (now (org .entry)) width height stride) x y w h (now (pred .entry)) depth ⌝ }
 {
-    if crate::tests::sides(w, h) {
+    if planes::sides(w, h) {
         return Distortion::Refused(Refusal::Size);
     }
-    if crate::tests::wrong_depth(depth) {
+    if planes::wrong_depth(depth) {
         return Distortion::Refused(Refusal::Depth);
     }
-    if crate::tests::outside_plane(org.len(), width, height, stride, x, y, w, h) {
+    if planes::outside_plane(org.len(), width, height, stride, x, y, w, h) {
         return Distortion::Refused(Refusal::Area);
     }
-    if crate::tests::outside_plane(pred.len(), w, h, w, 0, 0, w, h) {
+    if planes::outside_plane(pred.len(), w, h, w, 0, 0, w, h) {
         return Distortion::Refused(Refusal::Area);
     }
     crate::sad_blocks::of_blocks(org, y * stride + x, stride, pred, 0, w, w, h, depth)
@@ -131,16 +131,16 @@ pub fn evce_sad_16i(
 pub fn evce_sad_bi_16i(bi: &[i16], pred: &[u16], w: usize, h: usize, depth: u8) -> Distortion
     ensures { λ r. ⌜ distortionReading r ≡ sadBi16i (now (bi .entry)) (now (pred .entry)) w h depth ⌝ }
 {
-    if crate::tests::sides(w, h) {
+    if planes::sides(w, h) {
         return Distortion::Refused(Refusal::Size);
     }
-    if crate::tests::wrong_depth(depth) {
+    if planes::wrong_depth(depth) {
         return Distortion::Refused(Refusal::Depth);
     }
-    if crate::tests::malformed(bi.len(), w, h, w) {
+    if planes::malformed(bi.len(), w, h, w) {
         return Distortion::Refused(Refusal::Area);
     }
-    if crate::tests::outside_plane(pred.len(), w, h, w, 0, 0, w, h) {
+    if planes::outside_plane(pred.len(), w, h, w, 0, 0, w, h) {
         return Distortion::Refused(Refusal::Area);
     }
     crate::sad_blocks::of_bi(bi, pred, 0, w, w, h, depth)

@@ -1,6 +1,6 @@
 // SAD once sides, depth and areas are tested: of two blocks of samples, and of bi-prediction values and a block of samples. Document 01,
 // "Distortion".
-// Differs from the Rust in: the total is divided once, by a depth that is an argument.
+// Differs from the Rust in: the total is divided once (planes::sad_answer), by a depth that is an argument.
 ghost use mathlib.Core.Path.{_≡_};
 ghost use Prim.Native.Nat.{_-_, _/_, _^_, _<_, _≤_};
 ghost use mathlib.Core.List.{[], _∷_};
@@ -9,22 +9,17 @@ ghost use lib.ListN.{length};
 ghost use Rattle.evc.specs.Answers.{distortionReading};
 ghost use Rattle.evc.specs.declared.Refusal.the-variants as number;
 ghost use Rattle.evc.specs.Tests.{first, reply, _when_};
-ghost use Rattle.sad.specs.Totals.{TwoBlocks};
-ghost use Rattle.sad.specs.Rests.{strided, biRows, sadLeft};
+ghost use Rattle.planes.specs.Blocks.{TwoBlocks, strided};
+ghost use Rattle.sad.specs.Rests.{biRows, sadLeft};
 use crate::rows::Totals;
 use evc::Distortion;
-use evc::Refusal;
 
-// Every SAD ends here: a sample that is too large leaves a bit at or above the depth.
+// Every SAD ends here.
 fn end(t: Totals, depth: u8) -> Distortion
     requires { ⌜ (8 ≤ depth) × (depth ≤ 14) × (t .sum < 2 ^ 32) ⌝ }
     ensures { λ r. ⌜ distortionReading r ≡ reply (first ((number.Sample when leb (2 ^ depth) (t .any)) ∷ [])) (t .sum / 2 ^ (depth - 8)) ⌝ }
 {
-    if t.any >> depth != 0 {
-        return Distortion::Refused(Refusal::Sample);
-    }
-    let sad = (t.sum >> (depth - 8)) as u32;
-    Distortion::Value(sad)
+    planes::sad_answer(t.sum, t.any, depth)
 }
 
 // Two blocks of samples, after all other tests.
@@ -63,5 +58,5 @@ pub(crate) fn of_bi(
     requires { ⌜ (8 ≤ depth) × (depth ≤ 14) ⌝ }
     ensures { λ r. ⌜ distortionReading r ≡ sadLeft w h depth (biRows (now (bi .entry)) w) (strided (now (b .entry)) «b_at» «b_stride» depth) ⌝ }
 {
-    end(crate::bi::sad_block(bi, b, b_at, b_stride, w, h), depth)
+    end(crate::bi::total(bi, b, b_at, b_stride, w, h), depth)
 }

@@ -3,7 +3,7 @@
 ghost use mathlib.Core.Path.{_≡_};
 ghost use Rattle.evc.specs.Answers.{squaredReading};
 ghost use Rattle.evc.specs.Calls.{ssd16b, ssd16i};
-ghost use Rattle.sad.specs.Areas.{planeOf};
+ghost use Rattle.evc.specs.Planes.{planeOf};
 use evc::Refusal;
 use evc::SquaredDistortion;
 
@@ -21,18 +21,18 @@ pub fn evce_ssd_16b(
 ) -> SquaredDistortion
     ensures { λ r. ⌜ squaredReading r ≡ ssd16b (planeOf (now (org .entry)) width height stride) x y «log2_w» «log2_h» (now (cur .entry)) depth ⌝ }
 {
-    if crate::tests::logs(log2_w, log2_h) {
+    if planes::logs(log2_w, log2_h) {
         return SquaredDistortion::Refused(Refusal::Size);
     }
-    let w = crate::tests::side(log2_w);
-    let h = crate::tests::side(log2_h);
-    if crate::tests::wrong_depth(depth) {
+    let w = 1usize << log2_w;
+    let h = 1usize << log2_h;
+    if planes::wrong_depth(depth) {
         return SquaredDistortion::Refused(Refusal::Depth);
     }
-    if crate::tests::outside_plane(org.len(), width, height, stride, x, y, w, h) {
+    if planes::outside_plane(org.len(), width, height, stride, x, y, w, h) {
         return SquaredDistortion::Refused(Refusal::Area);
     }
-    if crate::tests::outside_plane(cur.len(), w, h, w, 0, 0, w, h) {
+    if planes::outside_plane(cur.len(), w, h, w, 0, 0, w, h) {
         return SquaredDistortion::Refused(Refusal::Area);
     }
     crate::ssd_blocks::of_blocks(org, y * stride + x, stride, cur, 0, w, w, h, depth)
@@ -55,18 +55,18 @@ pub fn evce_ssd_16i(
 ) -> SquaredDistortion
     ensures { λ r. ⌜ squaredReading r ≡ ssd16i (planeOf (now (one .entry)) width1 height1 stride1) (planeOf (now (two .entry)) width2 height2 stride2) x y «log2_w» «log2_h» depth ⌝ }
 {
-    if crate::tests::logs(log2_w, log2_h) {
+    if planes::logs(log2_w, log2_h) {
         return SquaredDistortion::Refused(Refusal::Size);
     }
-    let w = crate::tests::side(log2_w);
-    let h = crate::tests::side(log2_h);
-    if crate::tests::wrong_depth(depth) {
+    let w = 1usize << log2_w;
+    let h = 1usize << log2_h;
+    if planes::wrong_depth(depth) {
         return SquaredDistortion::Refused(Refusal::Depth);
     }
-    if crate::tests::outside_edges(one.len(), width1, height1, stride1, x, y, w, h) {
+    if planes::outside_edges(one.len(), width1, height1, stride1, x, y, w, h) {
         return SquaredDistortion::Refused(Refusal::Area);
     }
-    if crate::tests::outside_edges(two.len(), width2, height2, stride2, x, y, w, h) {
+    if planes::outside_edges(two.len(), width2, height2, stride2, x, y, w, h) {
         return SquaredDistortion::Refused(Refusal::Area);
     }
     crate::ssd_blocks::of_edges(one, stride1, two, stride2, x, y, w, h, depth)

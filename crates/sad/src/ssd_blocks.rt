@@ -1,7 +1,6 @@
 // SSD once sides, depth and areas are tested: of two blocks of samples, which may stand at positions that are negative. Document 01,
 // "Distortion".
-// Differs from the Rust in: the depth is an argument; the differences are squared unsigned; blocks at negative positions are read into packed
-// ones first.
+// Differs from the Rust in: the depth is an argument; blocks at negative positions are read into packed ones first.
 ghost use mathlib.Core.Path.{_≡_};
 ghost use Prim.Native.Nat.{_*_, _^_, _<_, _≤_};
 ghost use mathlib.Core.List.{[], _∷_};
@@ -11,9 +10,9 @@ ghost use lib.ListN.{length};
 ghost use Rattle.evc.specs.Answers.{squaredReading};
 ghost use Rattle.evc.specs.declared.Refusal.the-variants as number;
 ghost use Rattle.evc.specs.Tests.{first, reply, _when_};
-ghost use Rattle.sad.specs.Totals.{TwoBlocks};
+ghost use Rattle.planes.specs.Blocks.{TwoBlocks, strided};
 ghost use Rattle.sad.specs.Edges.{edged, BothEdges};
-ghost use Rattle.sad.specs.Rests.{strided, ssdLeft};
+ghost use Rattle.sad.specs.Rests.{ssdLeft};
 use crate::rows::Totals;
 use evc::Refusal;
 use evc::SquaredDistortion;
@@ -47,7 +46,7 @@ pub(crate) fn of_blocks(
     ensures { λ r. ⌜ squaredReading r ≡ ssdLeft w h depth (strided (now (a .entry)) «a_at» «a_stride» depth) (strided (now (b .entry)) «b_at» «b_stride» depth) ⌝ }
 {
     end(
-        crate::blocks::ssd_block(a, a_at, a_stride, b, b_at, b_stride, w, h, 2 * (depth - 8)),
+        crate::blocks::ssd_block(a, a_at, a_stride, b, b_at, b_stride, w, h, depth),
         depth,
     )
 }
@@ -75,6 +74,71 @@ fn through(
     of_blocks(&first[..], 0, w, &second[..], 0, w, w, h, depth)
 }
 
+// Clearing two blocks costs more than comparing small ones: they are of the smallest of three sizes that is enough.
+fn small(
+    one: &[u16],
+    stride1: usize,
+    two: &[u16],
+    stride2: usize,
+    x: i16,
+    y: i16,
+    w: usize,
+    h: usize,
+    depth: u8,
+) -> SquaredDistortion
+    requires { ⌜ BothEdges w h (length (now one)) stride1 (length (now two)) stride2 x y depth ⌝ }
+    requires { ⌜ h * w ≤ 64 ⌝ }
+    ensures { λ r. ⌜ squaredReading r ≡ ssdLeft w h depth (edged (now (one .entry)) stride1 x y depth) (edged (now (two .entry)) stride2 x y depth) ⌝ }
+{
+    let mut first = [0u16; 64];
+    let mut second = [0u16; 64];
+    through(
+        one,
+        stride1,
+        two,
+        stride2,
+        x,
+        y,
+        w,
+        h,
+        depth,
+        &mut first[..],
+        &mut second[..],
+    )
+}
+
+fn middle(
+    one: &[u16],
+    stride1: usize,
+    two: &[u16],
+    stride2: usize,
+    x: i16,
+    y: i16,
+    w: usize,
+    h: usize,
+    depth: u8,
+) -> SquaredDistortion
+    requires { ⌜ BothEdges w h (length (now one)) stride1 (length (now two)) stride2 x y depth ⌝ }
+    requires { ⌜ h * w ≤ 1024 ⌝ }
+    ensures { λ r. ⌜ squaredReading r ≡ ssdLeft w h depth (edged (now (one .entry)) stride1 x y depth) (edged (now (two .entry)) stride2 x y depth) ⌝ }
+{
+    let mut first = [0u16; 1024];
+    let mut second = [0u16; 1024];
+    through(
+        one,
+        stride1,
+        two,
+        stride2,
+        x,
+        y,
+        w,
+        h,
+        depth,
+        &mut first[..],
+        &mut second[..],
+    )
+}
+
 fn at_edges(
     one: &[u16],
     stride1: usize,
@@ -89,6 +153,13 @@ fn at_edges(
     requires { ⌜ BothEdges w h (length (now one)) stride1 (length (now two)) stride2 x y depth ⌝ }
     ensures { λ r. ⌜ squaredReading r ≡ ssdLeft w h depth (edged (now (one .entry)) stride1 x y depth) (edged (now (two .entry)) stride2 x y depth) ⌝ }
 {
+    let size = h * w;
+    if size <= 64 {
+        return small(one, stride1, two, stride2, x, y, w, h, depth);
+    }
+    if size <= 1024 {
+        return middle(one, stride1, two, stride2, x, y, w, h, depth);
+    }
     let mut first = [0u16; 4096];
     let mut second = [0u16; 4096];
     through(

@@ -10,8 +10,8 @@ use mir.Syntax.{w16, w32}
 use Rattle.integers.proofs.Order.{<ℤ-≤ℤ}
 use Rattle.integers.proofs.Bits.{lt-held, lt-failed}
 use Rattle.integers.proofs.Expr.{Ex, Known, env, arg, nat, var, sub, loc, fit, reads, within, to-unsigned}
+use Rattle.integers.proofs.Parts.{abs-turn, sub-nonneg}
 use Rattle.sad.specs.Totals.{apartBi}
-use Rattle.sad.proofs.Signed.{abs-turn, sub-nonneg}
 use Rattle.sad.proofs.bi.distance.Statement.{statement}
 use Rattle.sad.proofs.bi.distance.Tie as tie
 

@@ -6,7 +6,8 @@ use borrow.Author.Needs.{needs}
 use lib.Bits.{bitOr}
 use lib.IntN.{ℤ, pos}
 use lib.ListN.{length}
-use Rattle.sad.specs.Totals.{TwoBlocks, Compared, apartBi, lowMark, cell}
+use Rattle.planes.specs.Blocks.{TwoBlocks, cell, lowMark}
+use Rattle.sad.specs.Totals.{Compared, apartBi}
 use Rattle.sad.proofs.bi.sad_block.Statement.{statement}
 use Rattle.sad.proofs.bi.sad_block.Tie as tie
 
@@ -35,11 +36,11 @@ sad-rows-requires-3 c κs = let a = c .before .before .args in asked (a .w) 16 (
 sad-rows-requires-4 : tie.Need-sad-rows-requires-4
 sad-rows-requires-4 c κs = let a = c .before .before .args in asked (a .w) 8 (a .h) (a .a .now) (a .b .now) (a .b-at) (a .b-stride) (c .match .keys4) (c .before .before .pre)
 
-sad-rows-requires-5 : tie.Need-sad-rows-requires-5
-sad-rows-requires-5 c κs = let a = c .before .before .args in asked (a .w) 4 (a .h) (a .a .now) (a .b .now) (a .b-at) (a .b-stride) (c .match .keys5) (c .before .before .pre)
+fours-requires : tie.Need-fours-requires
+fours-requires c κs = let a = c .before .before .args in asked (a .w) 4 (a .h) (a .a .now) (a .b .now) (a .b-at) (a .b-stride) (c .match .keys5) (c .before .before .pre)
 
-sad-rows-requires-6 : tie.Need-sad-rows-requires-6
-sad-rows-requires-6 c κs = search needs
+sad-rows-requires-5 : tie.Need-sad-rows-requires-5
+sad-rows-requires-5 c κs = search needs
 
 returns : tie.Need-returns
 returns c = let a = c .before .before .before .args in told (a .w) 64 (a .h) (a .a .now) (a .b .now) (a .b-at) (a .b-stride) (c .before .match .keys1) (c .sad-rows .ensures)
@@ -54,7 +55,7 @@ returns-4 : tie.Need-returns-4
 returns-4 c = let a = c .before .before .before .args in told (a .w) 8 (a .h) (a .a .now) (a .b .now) (a .b-at) (a .b-stride) (c .before .match .keys4) (c .sad-rows4 .ensures)
 
 returns-5 : tie.Need-returns-5
-returns-5 c = let a = c .before .before .before .args in told (a .w) 4 (a .h) (a .a .now) (a .b .now) (a .b-at) (a .b-stride) (c .before .match .keys5) (c .sad-rows5 .ensures)
+returns-5 c = let a = c .before .before .before .args in told (a .w) 4 (a .h) (a .a .now) (a .b .now) (a .b-at) (a .b-stride) (c .before .match .keys5) (c .fours .ensures)
 
 returns-6 : tie.Need-returns-6
 returns-6 c = search needs
@@ -67,8 +68,8 @@ sad-block-spec =
     sad-rows-requires-2
     sad-rows-requires-3
     sad-rows-requires-4
+    fours-requires
     sad-rows-requires-5
-    sad-rows-requires-6
     returns
     returns-2
     returns-3

@@ -9,7 +9,8 @@ use lib.ListN.{getD}
 use mir.Syntax.{w16}
 use mir.Val.{toZ, ofZ}
 use mir.Facts.{toZ-ofZ}
-use Rattle.sad.specs.Totals.{apartBi, lowMark}
+use Rattle.planes.specs.Blocks.{lowMark}
+use Rattle.sad.specs.Totals.{apartBi}
 use Rattle.sad.proofs.Running.{Running, running-start, running-step, running-end}
 use Rattle.sad.proofs.bi.sad_row.Statement.{statement}
 use Rattle.sad.proofs.bi.sad_row.Tie as tie
@@ -36,8 +37,8 @@ mul-q c = omega arith
 shared-slice-read-q : tie.Need-shared-slice-read-q Inv-loop μ-loop
 shared-slice-read-q c = omega arith
 
-mark-requires : tie.Need-mark-requires Inv-loop μ-loop
-mark-requires c κs = tt
+low-mark-requires : tie.Need-low-mark-requires Inv-loop μ-loop
+low-mark-requires c κs = tt
 
 distance-requires : tie.Need-distance-requires Inv-loop μ-loop
 distance-requires c κs = tt
@@ -58,7 +59,7 @@ loop-again c =
     let z = getD (a .a .now) (l .i) (pos 0) in
     let v : toZ w16 (ofZ w16 z) ≡ z = toZ-ofZ (record { sfits = c .before .before .before .v .given }) in (
       running-step (l .inv .0) (omega arith) (c .distance .ensures .0 ∙ ap (λ (z : ℤ). apartBi z (getD (a .b .now) (l .i) 0)) v)
-          (ap (λ (m : ℕ). bitOr m (getD (a .b .now) (l .i) 0)) (c .before .mark .ensures ∙ ap lowMark v)),
+          (ap (λ (m : ℕ). bitOr m (getD (a .b .now) (l .i) 0)) (c .before .low-mark .ensures ∙ ap lowMark v)),
       omega (arith, c .distance .ensures .1),
     )
 
@@ -79,7 +80,7 @@ sad-row-spec =
     shared-slice-copy-out-v
     mul-q
     shared-slice-read-q
-    mark-requires
+    low-mark-requires
     distance-requires
     add-sum
     add-i

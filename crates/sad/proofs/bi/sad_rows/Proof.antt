@@ -5,10 +5,12 @@ use native.Mathlib.Omega.{arith}
 use lib.Bits.{bitOr}
 use lib.IntN.{pos}
 use Rattle.integers.specs.Sum.{sumN}
-use Rattle.sad.specs.Or.{orN}
-use Rattle.sad.specs.Totals.{Told, apartBi, lowMark, cell}
+use Rattle.integers.specs.Or.{orN}
+use Rattle.planes.specs.Blocks.{cell, lowMark}
+use Rattle.planes.proofs.Planes.{in-one, in-two}
+use Rattle.sad.specs.Totals.{Told, apartBi}
 use Rattle.sad.proofs.Running.{Running, running-start, running-step, running-end}
-use Rattle.sad.proofs.Cells.{in-one, in-two, two-rows, told-rows}
+use Rattle.sad.proofs.Cells.{two-rows, told-rows}
 use Rattle.sad.proofs.bi.sad_rows.Statement.{statement}
 use Rattle.sad.proofs.bi.sad_rows.Tie as tie
 

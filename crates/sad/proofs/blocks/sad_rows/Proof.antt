@@ -3,11 +3,13 @@ use Prim.Native.Nat.{ℕ, _+_, _-_, _*_, _≤_}
 use native.Mathlib.Omega.{arith}
 use lib.Bits.{bitOr}
 use Rattle.integers.specs.Sum.{sumN}
-use Rattle.sad.specs.Or.{orN}
-use Rattle.sad.specs.Totals.{Told, apart, cell}
+use Rattle.integers.specs.Or.{orN}
+use Rattle.planes.specs.Blocks.{cell}
+use Rattle.planes.proofs.Planes.{in-one, in-two}
+use Rattle.sad.specs.Totals.{Told, apart}
 use Rattle.sad.proofs.Samples.{apart-le}
 use Rattle.sad.proofs.Running.{Running, running-start, running-step, running-end, running-next}
-use Rattle.sad.proofs.Cells.{in-one, in-two, two-rows, told-rows, row-most}
+use Rattle.sad.proofs.Cells.{two-rows, told-rows, row-most}
 use Rattle.sad.proofs.blocks.sad_rows.Statement.{statement}
 use Rattle.sad.proofs.blocks.sad_rows.Tie as tie
 

@@ -3,21 +3,24 @@ use Prim.Native.Nat.{ℕ, _+_, _-_, _*_, _≤_}
 use native.Mathlib.Omega.{arith}
 use lib.Bits.{bitOr}
 use Rattle.integers.specs.Sum.{sumN}
-use Rattle.sad.specs.Or.{orN}
-use Rattle.sad.specs.Totals.{Told, squared, cell}
-use Rattle.sad.proofs.Samples.{squared-le}
+use Rattle.integers.specs.Or.{orN}
+use Rattle.planes.specs.Blocks.{cell}
+use Rattle.planes.proofs.Planes.{in-one, in-two}
+use Rattle.sad.specs.Totals.{Told}
+use Rattle.sad.specs.Near.{squaredLow}
+use Rattle.sad.proofs.Near.{squared-low-le}
 use Rattle.sad.proofs.Running.{Running, running-start, running-step, running-end, running-next}
-use Rattle.sad.proofs.Cells.{in-one, in-two, two-rows, told-rows, row-most}
+use Rattle.sad.proofs.Cells.{two-rows, told-rows, row-most}
 use Rattle.sad.proofs.blocks.ssd_rows.Statement.{statement}
 use Rattle.sad.proofs.blocks.ssd_rows.Tie as tie
 
 abbrev Inv-loop : tie.InvT-loop
-Inv-loop a a-at a-stride b b-at b-stride w h shift sum₀ any₀ j₀ sum any j =
-    Running h (λ j. sumN w (λ i. squared shift (cell 0 a a-at a-stride j i) (cell 0 b b-at b-stride j i)))
+Inv-loop a a-at a-stride b b-at b-stride w h depth sum₀ any₀ j₀ sum any j =
+    Running h (λ j. sumN w (λ i. squaredLow depth (cell 0 a a-at a-stride j i) (cell 0 b b-at b-stride j i)))
     (λ j. orN w (λ i. bitOr (cell 0 a a-at a-stride j i) (cell 0 b b-at b-stride j i))) sum any j
 
 abbrev μ-loop : tie.MeasureT-loop
-μ-loop a a-at a-stride b b-at b-stride w h shift sum₀ any₀ j₀ sum any j = h - j
+μ-loop a a-at a-stride b b-at b-stride w h depth sum₀ any₀ j₀ sum any j = h - j
 
 loop-holds : tie.Need-loop-holds Inv-loop μ-loop
 loop-holds c = running-start
@@ -41,32 +44,28 @@ told :
     (c : tie.After-ssd-row Inv-loop μ-loop) →
     let a = c .before .before .before .before .before .before .before .args in
     let j = c .before .before .before .before .loop .j in
-    Told (a .w) (λ i. squared (a .shift) (cell 0 (a .a .now) (a .a-at) (a .a-stride) j i) (cell 0 (a .b .now) (a .b-at) (a .b-stride) j i))
+    Told (a .w) (λ i. squaredLow (a .depth) (cell 0 (a .a .now) (a .a-at) (a .a-stride) j i) (cell 0 (a .b .now) (a .b-at) (a .b-stride) j i))
     (λ i. bitOr (cell 0 (a .a .now) (a .a-at) (a .a-stride) j i) (cell 0 (a .b .now) (a .b-at) (a .b-stride) j i))
     (c .ssd-row .result .sum) (c .ssd-row .result .any)
 told c =
     let a = c .before .before .before .before .before .before .before .args in
-    told-rows (squared (a .shift)) bitOr 0 0 (a .a .now) (a .a-at) (a .a-stride) (a .b .now) (a .b-at) (a .b-stride) (c .before .before .before .before .loop .j) (a .w)
+    told-rows (squaredLow (a .depth)) bitOr 0 0 (a .a .now) (a .a-at) (a .a-stride) (a .b .now) (a .b-at) (a .b-stride) (c .before .before .before .before .loop .j) (a .w)
     (c .before .before .row .result .now) (c .before .row2 .result .now) (c .before .before .row .ensures) (c .before .row2 .ensures) (c .ssd-row .ensures)
 
 -- what a row adds at most
 most :
     (c : tie.After-ssd-row Inv-loop μ-loop) (j : ℕ) →
     let a = c .before .before .before .before .before .before .before .args in
-    sumN (a .w) (λ i. squared (a .shift) (cell 0 (a .a .now) (a .a-at) (a .a-stride) j i) (cell 0 (a .b .now) (a .b-at) (a .b-stride) j i)) ≤ 274869518400
-unfolding cell
+    sumN (a .w) (λ i. squaredLow (a .depth) (cell 0 (a .a .now) (a .a-at) (a .a-stride) j i) (cell 0 (a .b .now) (a .b-at) (a .b-stride) j i)) ≤ 4194240
 most c j =
     let s = c .before .before .before .before .before .before .before in
     let a = s .args in
-    row-most (a .w) 4294836225 (λ i. squared (a .shift) (cell 0 (a .a .now) (a .a-at) (a .a-stride) j i) (cell 0 (a .b .now) (a .b-at) (a .b-stride) j i)) (s .pre .0 .narrow)
-    (λ i.
-    squared-le (a .shift) (cell 0 (a .a .now) (a .a-at) (a .a-stride) j i) (cell 0 (a .b .now) (a .b-at) (a .b-stride) j i)
-    (omega (arith, c .before .before .before .before .before .before .shared-slice-known .given (a .a-at + j * a .a-stride + i)))
-    (omega (arith, c .before .before .before .before .before .shared-slice-known2 .given (a .b-at + j * a .b-stride + i))))
+    row-most (a .w) 65535 (λ i. squaredLow (a .depth) (cell 0 (a .a .now) (a .a-at) (a .a-stride) j i) (cell 0 (a .b .now) (a .b-at) (a .b-stride) j i)) (s .pre .0 .narrow)
+    (λ i. squared-low-le (a .depth) (cell 0 (a .a .now) (a .a-at) (a .a-stride) j i) (cell 0 (a .b .now) (a .b-at) (a .b-stride) j i) (s .pre .1 .0))
 
 add-sum : tie.Need-add-sum Inv-loop μ-loop
 add-sum c =
-    omega (arith, running-next 274869518400 (c .before .before .before .before .before .loop .inv) (omega arith) (told (c .before) .total) (λ j h. most (c .before) j))
+    omega (arith, running-next 4194240 (c .before .before .before .before .before .loop .inv) (omega arith) (told (c .before) .total) (λ j h. most (c .before) j))
 
 add-j : tie.Need-add-j Inv-loop μ-loop
 add-j c = omega arith

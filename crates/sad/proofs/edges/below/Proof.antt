@@ -10,7 +10,8 @@ use mir.Facts.{toZ-ofZ}
 use Rattle.integers.proofs.Order.{<ℤ-≤ℤ}
 use Rattle.integers.proofs.Bits.{lt-held, lt-failed}
 use Rattle.integers.proofs.Expr.{Ex, Known, env, arg, var, lit, sub, loc, fit, reads, within, to-unsigned}
-use Rattle.sad.proofs.Signed.{sub-nonneg, minus-behind, none-behind}
+use Rattle.integers.proofs.Parts.{sub-nonneg}
+use Rattle.sad.proofs.Signed.{minus-behind, none-behind}
 use Rattle.sad.proofs.edges.below.Statement.{statement}
 use Rattle.sad.proofs.edges.below.Tie as tie
 

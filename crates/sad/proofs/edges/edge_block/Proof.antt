@@ -1,143 +1,121 @@
 -- `edge_block` meets its contract. Assumes nothing.
-use mathlib.Core.Path.{_≡_, sym, ap, ap₂, _∙_}
-use Prim.Native.Nat.{ℕ, _+_, _*_, _-_, _<_, _≤_}
-use native.Mathlib.Omega.{arith}
-use lib.IntN.{ℤ, pos, _+ℤ_}
-use lib.ListN.{length, getD}
+use mathlib.Core.Path.{_≡_, refl, sym, subst}
+use mathlib.Core.List.{List}
+use Prim.Native.Nat.{ℕ, _*_, _≤_}
+use borrow.Author.Needs.{needs}
+use lib.IntN.{ℤ}
+use lib.ListN.{length}
 use mir.Syntax.{w16}
-use mir.Val.{toZ, ofZ}
-use mir.Facts.{toZ-ofZ}
-use Rattle.integers.specs.Lists.{tab, written}
-use Rattle.integers.proofs.Written.{tab-ext, grid-at}
-use Rattle.evc.specs.Planes.{edge}
-use Rattle.sad.specs.Edges.{edgeCell, edgeAt}
-use Rattle.sad.proofs.Grid.{Wrote, wrote-start, wrote-row, wrote-end, wrote-long, row-room, row-long}
+use mir.Val.{SFits, toZ, ofZ}
+use Rattle.integers.specs.Lists.{written}
+use Rattle.sad.specs.Edges.{edgeAt, EdgesIn}
+use Rattle.sad.proofs.AtEdges.{as-bits, of-bits}
 use Rattle.sad.proofs.edges.edge_block.Statement.{statement}
 use Rattle.sad.proofs.edges.edge_block.Tie as tie
 
-abbrev Inv-loop : tie.InvT-loop
-Inv-loop l stride x y w h out₀ j₀ out j = Wrote w h (edgeAt l stride (toZ w16 x) (toZ w16 y) w) out₀ out j
+-- a width that a literal names: what is asked, and what was written; the positions come as their bits
+module _ (w k h : ℕ) (l : List ℕ) (stride : ℕ) {x y : ℤ} (z : List ℕ) (e : w ≡ k) (f : SFits w16 x) (g : SFits w16 y) where
+  asked : EdgesIn (length l) stride x y w h × (h * w ≤ length z) → EdgesIn (length l) stride (toZ w16 (ofZ w16 x)) (toZ w16 (ofZ w16 y)) k h × (h * k ≤ length z)
+  asked p =
+      as-bits (λ x y. EdgesIn (length l) stride x y k h × (h * k ≤ length z)) f g
+      (subst (λ (n : ℕ). EdgesIn (length l) stride x y n h × (h * n ≤ length z)) e p)
 
-abbrev μ-loop : tie.MeasureT-loop
-μ-loop l stride x y w h out₀ j₀ out j = h - j
+  wrote : (out : List ℕ) → out ≡ written (h * k) (edgeAt l stride (toZ w16 (ofZ w16 x)) (toZ w16 (ofZ w16 y)) k) z → out ≡ written (h * w) (edgeAt l stride x y w) z
+  wrote out p =
+      subst (λ (n : ℕ). out ≡ written (h * n) (edgeAt l stride x y n) z) (sym e)
+      (of-bits (λ x y. out ≡ written (h * k) (edgeAt l stride x y k) z) f g p)
 
-loop-holds : tie.Need-loop-holds Inv-loop μ-loop
-loop-holds c = wrote-start (c .before .before .pre .1)
-
-edge-requires : tie.Need-edge-requires Inv-loop μ-loop
-edge-requires c κs = omega (arith, c .before .before .before .before .pre .0 .low)
-
--- row j has room in the output
-room :
-    (c : tie.After-edge Inv-loop μ-loop) →
-    let w = c .before .before .before .before .before .args .w in c .before .before .loop .j * w + w ≤ length (c .before .before .loop .out)
-room c = row-room (c .before .before .loop .inv) (c .before .loop-test .taken)
-
--- where row j of the block starts in the plane, and that its columns read inside
-starts :
-    (c : tie.After-edge Inv-loop μ-loop) →
-    let s = c .before .before .before .before .before in c .edge .result ≡ edge (s .args .y +ℤ pos (c .before .before .loop .j))
-starts c =
-    let s = c .before .before .before .before .before in
-    c .edge .ensures ∙ ap (λ (z : ℤ). edge (z +ℤ pos (c .before .before .loop .j))) (toZ-ofZ (s .fits .y))
-
-columns :
-    (c : tie.After-edge Inv-loop μ-loop) (i : ℕ) →
-    let a = c .before .before .before .before .before .args in i < a .w → c .edge .result * a .stride + edge (toZ w16 (ofZ w16 (a .x)) +ℤ pos i) < length (a .l .now)
-columns c i p =
-    let s = c .before .before .before .before .before in
-    let e = ap (λ (n : ℕ). n * s .args .stride) (starts c) in
-    let f = ap (λ (z : ℤ). edge (z +ℤ pos i)) (toZ-ofZ (s .fits .x)) in
-    omega (arith, e, f, s .pre .0 .reads (c .before .before .loop .j) i (c .before .loop-test .taken) p)
-
-mul-base : tie.Need-mul-base Inv-loop μ-loop
-mul-base c =
-    let s = c .before .before .before .before .before in omega (arith, columns c 0 (s .pre .0 .wide), s .good)
-
-mul-from : tie.Need-mul-from Inv-loop μ-loop
-mul-from c =
-    let s = c .before .before .before .before .before in omega (arith, room c, wrote-long (c .before .before .loop .inv), s .good)
-
-add-to : tie.Need-add-to Inv-loop μ-loop
-add-to c =
-    let s = c .before .before .before .before .before in omega (arith, room c, wrote-long (c .before .before .loop .inv), s .good)
-
-mul-edge-row : tie.Need-mul-edge-row Inv-loop μ-loop
-mul-edge-row c =
-    let s = c .before .before .before .before .before in omega (arith, room c, wrote-long (c .before .before .loop .inv), s .good)
-
-sub-edge-row : tie.Need-sub-edge-row Inv-loop μ-loop
-sub-edge-row c = omega arith
-
-part-edge-row-start : tie.Need-part-edge-row-start Inv-loop μ-loop
-part-edge-row-start c = omega arith
-
-part-edge-row-end : tie.Need-part-edge-row-end Inv-loop μ-loop
-part-edge-row-end c = room c
-
-edge-row-requires : tie.Need-edge-row-requires Inv-loop μ-loop
-edge-row-requires c κs =
-    let s = c .before .before .before .before .before .before in
-    (record { narrow = s .pre .0 .narrow; reads = columns (c .before) }, row-long (c .before .before .before .loop .inv) (c .before .before .loop-test .taken))
-
--- what the row reads, by its places in the output
-placed :
-    (c : tie.After-edge-row Inv-loop μ-loop) →
-    let a = c .before .before .before .before .before .before .before .args in
-    let j = c .before .before .before .before .loop .j in
-    c .edge-row .last .1 .1 .1 .1 .0 ≡ tab (a .w) (λ i. edgeAt (a .l .now) (a .stride) (toZ w16 (ofZ w16 (a .x))) (toZ w16 (ofZ w16 (a .y))) (a .w) (j * a .w + i))
-unfolding edgeAt edgeCell
-placed c =
-    let a = c .before .before .before .before .before .before .before .args in
-    let j = c .before .before .before .before .loop .j in
-    let x = toZ w16 (ofZ w16 (a .x)) in
-    let y = toZ w16 (ofZ w16 (a .y)) in
-    let base = c .before .before .edge .result * a .stride in
-    c .edge-row .ensures
-    ∙ tab-ext (a .w) (λ i. getD (a .l .now) (base + edge (x +ℤ pos i)) 0) (λ i. edgeAt (a .l .now) (a .stride) x y (a .w) (j * a .w + i))
-    (λ i p.
-    ap (λ (n : ℕ). getD (a .l .now) (n * a .stride + edge (x +ℤ pos i)) 0) (c .before .before .edge .ensures)
-    ∙ sym (grid-at (edgeCell (a .l .now) (a .stride) x y) j i (a .w) p))
-
-add-j : tie.Need-add-j Inv-loop μ-loop
-add-j c = omega arith
-
-loop-less : tie.Need-loop-less Inv-loop μ-loop
-loop-less c = omega arith
-
-loop-again : tie.Need-loop-again Inv-loop μ-loop
-loop-again c =
-    let t = c .before .before .before .before .before in
-    wrote-row (t .before .loop .inv) (t .loop-test .taken) (c .before .before .edge-row .last .1 .1 .1 .1 .0) (placed (c .before .before))
-
-same-length : tie.Need-same-length Inv-loop μ-loop
-same-length c = wrote-long (c .before .loop .inv)
-
-returns : tie.Need-returns Inv-loop μ-loop
-returns c =
+edge-rows-requires : tie.Need-edge-rows-requires
+edge-rows-requires c κs =
     let s = c .before .before .before .before in
     let a = s .args in
-    wrote-end (c .before .loop .inv) (c .loop-test .left)
-    ∙ ap₂ (λ (x y : ℤ). written (a .h * a .w) (edgeAt (a .l .now) (a .stride) x y (a .w)) (a .out .now)) (toZ-ofZ (s .fits .x)) (toZ-ofZ (s .fits .y))
+    asked (a .w) 16 (a .h) (a .l .now) (a .stride) (a .out .now) (c .before .match .keys1) (s .fits .x) (s .fits .y) (s .pre)
+
+edge-rows-requires-2 : tie.Need-edge-rows-requires-2
+edge-rows-requires-2 c κs =
+    let s = c .before .before .before .before in
+    let a = s .args in
+    asked (a .w) 8 (a .h) (a .l .now) (a .stride) (a .out .now) (c .before .match .keys2) (s .fits .x) (s .fits .y) (s .pre)
+
+edge-rows-requires-3 : tie.Need-edge-rows-requires-3
+edge-rows-requires-3 c κs =
+    let s = c .before .before .before .before in
+    let a = s .args in
+    asked (a .w) 4 (a .h) (a .l .now) (a .stride) (a .out .now) (c .before .match .keys3) (s .fits .x) (s .fits .y) (s .pre)
+
+edge-rows-requires-4 : tie.Need-edge-rows-requires-4
+edge-rows-requires-4 c κs =
+    let s = c .before .before .before .before in
+    let a = s .args in
+    asked (a .w) 2 (a .h) (a .l .now) (a .stride) (a .out .now) (c .before .match .keys4) (s .fits .x) (s .fits .y) (s .pre)
+
+edge-rows-requires-5 : tie.Need-edge-rows-requires-5
+edge-rows-requires-5 c κs =
+    let s = c .before .before .before .before in
+    let a = s .args in
+    asked (a .w) (a .w) (a .h) (a .l .now) (a .stride) (a .out .now) (refl) (s .fits .x) (s .fits .y) (s .pre)
+
+same-length : tie.Need-same-length
+same-length c = search needs
+
+returns : tie.Need-returns
+returns c =
+    let s = c .before .before .before .before .before .before .before in
+    let a = s .args in
+    wrote (a .w) 16 (a .h) (a .l .now) (a .stride) (a .out .now) (c .before .before .before .before .match .keys1) (s .fits .x) (s .fits .y) _ (c .before .before .edge-rows .ensures)
+
+same-length-2 : tie.Need-same-length-2
+same-length-2 c = search needs
+
+returns-2 : tie.Need-returns-2
+returns-2 c =
+    let s = c .before .before .before .before .before .before .before in
+    let a = s .args in
+    wrote (a .w) 8 (a .h) (a .l .now) (a .stride) (a .out .now) (c .before .before .before .before .match .keys2) (s .fits .x) (s .fits .y) _ (c .before .before .edge-rows2 .ensures)
+
+same-length-3 : tie.Need-same-length-3
+same-length-3 c = search needs
+
+returns-3 : tie.Need-returns-3
+returns-3 c =
+    let s = c .before .before .before .before .before .before .before in
+    let a = s .args in
+    wrote (a .w) 4 (a .h) (a .l .now) (a .stride) (a .out .now) (c .before .before .before .before .match .keys3) (s .fits .x) (s .fits .y) _ (c .before .before .edge-rows3 .ensures)
+
+same-length-4 : tie.Need-same-length-4
+same-length-4 c = search needs
+
+returns-4 : tie.Need-returns-4
+returns-4 c =
+    let s = c .before .before .before .before .before .before .before in
+    let a = s .args in
+    wrote (a .w) 2 (a .h) (a .l .now) (a .stride) (a .out .now) (c .before .before .before .before .match .keys4) (s .fits .x) (s .fits .y) _ (c .before .before .edge-rows4 .ensures)
+
+same-length-5 : tie.Need-same-length-5
+same-length-5 c = search needs
+
+returns-5 : tie.Need-returns-5
+returns-5 c =
+    let s = c .before .before .before .before .before .before .before in
+    let a = s .args in
+    wrote (a .w) (a .w) (a .h) (a .l .now) (a .stride) (a .out .now) (refl) (s .fits .x) (s .fits .y) _ (c .before .before .edge-rows5 .ensures)
 
 pub edge-block-spec : {M : Type 1} → statement M
 edge-block-spec =
     tie.close
     (tie.spec
-    Inv-loop
-    μ-loop
-    loop-holds
-    edge-requires
-    mul-base
-    mul-from
-    add-to
-    mul-edge-row
-    sub-edge-row
-    part-edge-row-start
-    part-edge-row-end
-    edge-row-requires
-    add-j
-    loop-less
-    loop-again
+    edge-rows-requires
+    edge-rows-requires-2
+    edge-rows-requires-3
+    edge-rows-requires-4
+    edge-rows-requires-5
     same-length
-    returns)
+    returns
+    same-length-2
+    returns-2
+    same-length-3
+    returns-3
+    same-length-4
+    returns-4
+    same-length-5
+    returns-5)

@@ -30,7 +30,7 @@ below-requires : tie.Need-below-requires Inv-loop μ-loop Inv-loop2 μ-loop2
 below-requires c κs = tt
 
 edge-requires : tie.Need-edge-requires Inv-loop μ-loop Inv-loop2 μ-loop2
-edge-requires c κs = omega arith
+edge-requires c κs = tt
 
 at-most-requires : tie.Need-at-most-requires Inv-loop μ-loop Inv-loop2 μ-loop2
 at-most-requires c κs = tt

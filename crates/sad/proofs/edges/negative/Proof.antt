@@ -3,7 +3,7 @@ use mathlib.Core.Path.{sym, ap, _∙_}
 use lib.IntN.{ℤ, pos}
 use lib.Signed.{ltZ}
 use mir.Facts.{toZ-ofZ}
-use Rattle.sad.proofs.Booleans.{or-first, or-rest}
+use Rattle.order.proofs.Tests.{or-first, or-rest}
 use Rattle.sad.proofs.edges.negative.Statement.{statement}
 use Rattle.sad.proofs.edges.negative.Tie as tie
 

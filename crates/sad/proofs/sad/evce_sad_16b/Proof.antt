@@ -5,15 +5,17 @@ use Prim.Native.Nat.{ℕ, _+_, _*_, _-_, _/_, _^_}
 use native.Mathlib.Omega.{arith}
 use borrow.Author.Needs.{needs}
 use lib.ListN.{length}
+use Rattle.order.proofs.Tests.{neither-left, neither-right}
 use Rattle.evc.specs.Answers.{distortionReading}
 use Rattle.evc.specs.Tests.{outside}
 use Rattle.evc.specs.Differences.{difference, sadTotal}
-use Rattle.sad.specs.Areas.{outsidePlane, outsideEdges}
-use Rattle.sad.specs.Rests.{strided, rest}
+use Rattle.evc.proofs.Tests.{outside-no}
+use Rattle.planes.specs.Areas.{outsidePlane, outsideEdges}
+use Rattle.planes.specs.Blocks.{strided, rest}
+use Rattle.planes.proofs.Planes.{is-inside, rows-inside, plane-alike}
+use Rattle.planes.proofs.Replies.{rest-alike}
 use Rattle.sad.specs.Edges.{edged, AtEdges}
-use Rattle.sad.proofs.Booleans.{inside, or-left, or-right}
-use Rattle.sad.proofs.Planes.{is-inside, rows-inside, plane-alike}
-use Rattle.sad.proofs.Replies.{rest-alike, sad-alike, sad-size, sad-depth, sad-area, sad-second, sad-rest}
+use Rattle.sad.proofs.Replies.{sad-alike, sad-size, sad-depth, sad-area, sad-second, sad-rest}
 use Rattle.sad.proofs.AtEdges.{edges-in, edges-alike, as-bits, of-bits}
 use Rattle.sad.proofs.sad.evce_sad_16b.Statement.{statement}
 use Rattle.sad.proofs.sad.evce_sad_16b.Tie as tie
@@ -80,14 +82,14 @@ ready :
 ready c =
     let a = c .before .before .before .before .before .before .before .before .before .before .args in
     let s = sized (c .before .before .before .before .before .before) in
-    let w = inside 1 64 (a .w) (or-left (outside 1 64 (a .w)) (outside 1 64 (a .h)) s) in
-    let h = inside 1 64 (a .h) (or-right (outside 1 64 (a .w)) (outside 1 64 (a .h)) s) in
+    let w = outside-no 1 64 (a .w) (neither-left (outside 1 64 (a .w)) (outside 1 64 (a .h)) s) in
+    let h = outside-no 1 64 (a .h) (neither-right (outside 1 64 (a .w)) (outside 1 64 (a .h)) s) in
     record {
       one =
           rows-inside (length (a .org .now)) (a .width) (a .height) (a .stride) (a .x) (a .y) (a .w) (a .h) (h .0)
           (is-inside (length (a .org .now)) (a .width) (a .height) (a .stride) (a .x) (a .y) (a .w) (a .h) (one (c .before .before)));
       two = edges-in (length (a .reference .now)) (a .ref-width) (a .ref-height) (a .ref-stride) (a .mv-x) (a .mv-y) (a .w) (a .h) w h (two c);
-      deep = inside 8 14 (a .depth) (deep (c .before .before .before .before));
+      deep = outside-no 8 14 (a .depth) (deep (c .before .before .before .before));
     }
 
 mul-of-edges : tie.Need-mul-of-edges

@@ -5,12 +5,14 @@ use Prim.Native.Nat.{ℕ, _+_, _*_, _-_, _/_, _^_}
 use native.Mathlib.Omega.{arith}
 use borrow.Author.Needs.{needs}
 use lib.ListN.{length}
+use Rattle.order.proofs.Tests.{neither-left, neither-right}
 use Rattle.evc.specs.Tests.{outside}
-use Rattle.sad.specs.Areas.{outsidePlane}
-use Rattle.sad.specs.Totals.{TwoBlocks}
-use Rattle.sad.proofs.Booleans.{inside, or-left, or-right}
-use Rattle.sad.proofs.Planes.{is-inside, rows-inside, plane-alike}
-use Rattle.sad.proofs.Replies.{rest-alike, sad-alike, sad-size, sad-depth, sad-area, sad-second, sad-rest}
+use Rattle.evc.proofs.Tests.{outside-no}
+use Rattle.planes.specs.Areas.{outsidePlane}
+use Rattle.planes.specs.Blocks.{TwoBlocks}
+use Rattle.planes.proofs.Planes.{is-inside, rows-inside, plane-alike}
+use Rattle.planes.proofs.Replies.{rest-alike}
+use Rattle.sad.proofs.Replies.{sad-alike, sad-size, sad-depth, sad-area, sad-second, sad-rest}
 use Rattle.sad.proofs.sad.evce_sad_16i.Statement.{statement}
 use Rattle.sad.proofs.sad.evce_sad_16i.Tie as tie
 
@@ -62,8 +64,8 @@ blocks :
 blocks c =
     let a = c .before .before .before .before .before .before .before .before .before .before .args in
     let s = sized (c .before .before .before .before .before .before) in
-    let w = inside 1 64 (a .w) (or-left (outside 1 64 (a .w)) (outside 1 64 (a .h)) s) in
-    let h = inside 1 64 (a .h) (or-right (outside 1 64 (a .w)) (outside 1 64 (a .h)) s) in
+    let w = outside-no 1 64 (a .w) (neither-left (outside 1 64 (a .w)) (outside 1 64 (a .h)) s) in
+    let h = outside-no 1 64 (a .h) (neither-right (outside 1 64 (a .w)) (outside 1 64 (a .h)) s) in
     record {
       narrow = w .1;
       low = h .1;
@@ -81,7 +83,7 @@ add-of-blocks c = omega (arith, blocks c .one)
 
 of-blocks-requires : tie.Need-of-blocks-requires
 of-blocks-requires c κs =
-    (blocks c, inside 8 14 (c .before .before .before .before .before .before .before .before .before .before .args .depth) (deep (c .before .before .before .before)))
+    (blocks c, outside-no 8 14 (c .before .before .before .before .before .before .before .before .before .before .args .depth) (deep (c .before .before .before .before)))
 
 returns-5 : tie.Need-returns-5
 returns-5 c =

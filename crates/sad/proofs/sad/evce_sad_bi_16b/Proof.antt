@@ -4,15 +4,18 @@ use mathlib.Core.Bool.{false, _||_}
 use Prim.Native.Nat.{ℕ, _-_, _/_, _^_}
 use borrow.Author.Needs.{needs}
 use lib.ListN.{length}
+use Rattle.order.proofs.Tests.{neither-left, neither-right}
 use Rattle.evc.specs.Answers.{distortionReading}
 use Rattle.evc.specs.Tests.{outside}
 use Rattle.evc.specs.Differences.{difference, sadTotal}
-use Rattle.sad.specs.Areas.{badPlane, outsideEdges}
-use Rattle.sad.specs.Rests.{biRows, rest}
+use Rattle.evc.proofs.Tests.{outside-no}
+use Rattle.planes.specs.Areas.{badPlane, outsideEdges}
+use Rattle.planes.specs.Blocks.{rest}
+use Rattle.planes.proofs.Planes.{well-formed}
+use Rattle.planes.proofs.Replies.{rest-alike}
+use Rattle.sad.specs.Rests.{biRows}
 use Rattle.sad.specs.Edges.{edged, AtEdges}
-use Rattle.sad.proofs.Booleans.{inside, or-left, or-right, well-formed}
-use Rattle.sad.proofs.Planes.{bi-alike}
-use Rattle.sad.proofs.Replies.{rest-alike, sad-alike, sad-size, sad-depth, sad-area, sad-second, sad-rest}
+use Rattle.sad.proofs.Replies.{bi-alike, sad-alike, sad-size, sad-depth, sad-area, sad-second, sad-rest}
 use Rattle.sad.proofs.AtEdges.{edges-in, edges-alike, as-bits, of-bits}
 use Rattle.sad.proofs.sad.evce_sad_bi_16b.Statement.{statement}
 use Rattle.sad.proofs.sad.evce_sad_bi_16b.Tie as tie
@@ -77,13 +80,13 @@ bi-of-edges-requires c κs =
     let t = c .before .before .before .before .before .before .before .before .before in
     let a = t .args in
     let s = sized (c .before .before .before .before .before .before) in
-    let w = inside 1 64 (a .w) (or-left (outside 1 64 (a .w)) (outside 1 64 (a .h)) s) in
-    let h = inside 1 64 (a .h) (or-right (outside 1 64 (a .w)) (outside 1 64 (a .h)) s) in
+    let w = outside-no 1 64 (a .w) (neither-left (outside 1 64 (a .w)) (outside 1 64 (a .h)) s) in
+    let h = outside-no 1 64 (a .h) (neither-right (outside 1 64 (a .w)) (outside 1 64 (a .h)) s) in
     as-bits (λ x y. AtEdges (a .w) (a .h) (length (a .bi .now)) 0 (a .w) (length (a .reference .now)) (a .ref-stride) x y (a .depth)) (t .fits .mv-x) (t .fits .mv-y)
     (record {
       one = well-formed (length (a .bi .now)) (a .w) (a .h) (a .w) (one (c .before .before)) .long;
       two = edges-in (length (a .reference .now)) (a .ref-width) (a .ref-height) (a .ref-stride) (a .mv-x) (a .mv-y) (a .w) (a .h) w h (two c);
-      deep = inside 8 14 (a .depth) (deep (c .before .before .before .before));
+      deep = outside-no 8 14 (a .depth) (deep (c .before .before .before .before));
     })
 
 returns-5 : tie.Need-returns-5

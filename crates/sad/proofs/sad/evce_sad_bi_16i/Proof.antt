@@ -5,11 +5,13 @@ use Prim.Native.Nat.{ℕ, _-_, _/_, _^_}
 use native.Mathlib.Omega.{arith}
 use borrow.Author.Needs.{needs}
 use lib.ListN.{length}
+use Rattle.order.proofs.Tests.{neither-left, neither-right}
 use Rattle.evc.specs.Tests.{outside}
-use Rattle.sad.specs.Areas.{badPlane, outsidePlane}
-use Rattle.sad.proofs.Booleans.{inside, or-left, or-right, well-formed}
-use Rattle.sad.proofs.Planes.{is-inside, plane-alike, bi-alike}
-use Rattle.sad.proofs.Replies.{rest-alike, sad-alike, sad-size, sad-depth, sad-area, sad-second, sad-rest}
+use Rattle.evc.proofs.Tests.{outside-no}
+use Rattle.planes.specs.Areas.{badPlane, outsidePlane}
+use Rattle.planes.proofs.Planes.{well-formed, is-inside, plane-alike}
+use Rattle.planes.proofs.Replies.{rest-alike}
+use Rattle.sad.proofs.Replies.{bi-alike, sad-alike, sad-size, sad-depth, sad-area, sad-second, sad-rest}
 use Rattle.sad.proofs.sad.evce_sad_bi_16i.Statement.{statement}
 use Rattle.sad.proofs.sad.evce_sad_bi_16i.Tie as tie
 
@@ -62,12 +64,12 @@ of-bi-requires c κs =
     let a = c .before .before .before .before .before .before .before .before .before .args in
     let s = sized (c .before .before .before .before .before .before) in (
       record {
-        narrow = inside 1 64 (a .w) (or-left (outside 1 64 (a .w)) (outside 1 64 (a .h)) s) .1;
-        low = inside 1 64 (a .h) (or-right (outside 1 64 (a .w)) (outside 1 64 (a .h)) s) .1;
+        narrow = outside-no 1 64 (a .w) (neither-left (outside 1 64 (a .w)) (outside 1 64 (a .h)) s) .1;
+        low = outside-no 1 64 (a .h) (neither-right (outside 1 64 (a .w)) (outside 1 64 (a .h)) s) .1;
         one = well-formed (length (a .bi .now)) (a .w) (a .h) (a .w) (one (c .before .before)) .long;
         two = is-inside (length (a .pred .now)) (a .w) (a .h) (a .w) 0 0 (a .w) (a .h) (two c) .formed .long;
       },
-      inside 8 14 (a .depth) (deep (c .before .before .before .before)),
+      outside-no 8 14 (a .depth) (deep (c .before .before .before .before)),
     )
 
 returns-5 : tie.Need-returns-5

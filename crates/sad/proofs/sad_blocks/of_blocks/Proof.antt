@@ -4,11 +4,11 @@ use Prim.Native.Nat.{ℕ, _+_, _*_, _-_, _/_, _^_, _≤_}
 use native.Mathlib.Omega.{arith}
 use lib.Bits.{bitOr}
 use Rattle.evc.specs.Differences.{sadTotal}
-use Rattle.sad.specs.Totals.{apart, cell}
-use Rattle.sad.specs.Rests.{strided, rest}
+use Rattle.planes.specs.Blocks.{cell, strided, rest}
+use Rattle.planes.proofs.Replies.{marked-rest}
+use Rattle.sad.specs.Totals.{apart}
 use Rattle.sad.proofs.Samples.{apart-le}
 use Rattle.sad.proofs.Cells.{compared-most}
-use Rattle.sad.proofs.Replies.{marked-rest}
 use borrow.Author.Needs.{needs}
 use Rattle.sad.proofs.sad_blocks.of_blocks.Statement.{statement}
 use Rattle.sad.proofs.sad_blocks.of_blocks.Tie as tie

@@ -4,9 +4,11 @@ use Prim.Native.Nat.{ℕ, _-_, _/_, _^_}
 use borrow.Author.Needs.{needs}
 use mir.Syntax.{w16}
 use mir.Val.{toZ, ofZ}
-use Rattle.sad.specs.Rests.{strided, biRows}
+use Rattle.planes.specs.Blocks.{strided}
+use Rattle.planes.proofs.Replies.{Alike, alike, rest-alike}
+use Rattle.sad.specs.Rests.{biRows}
 use Rattle.sad.specs.Edges.{edged}
-use Rattle.sad.proofs.Replies.{Alike, alike, rest-alike, sad-alike}
+use Rattle.sad.proofs.Replies.{sad-alike}
 use Rattle.sad.proofs.AtEdges.{filled-in, filled-long, of-bits}
 use Rattle.sad.proofs.sad_edges.bi_through.Statement.{statement}
 use Rattle.sad.proofs.sad_edges.bi_through.Tie as tie

@@ -9,9 +9,10 @@ use lib.Signed.{ltZ}
 use mir.Facts.{toZ-ofZ}
 use Rattle.evc.specs.Answers.{distortionReading}
 use Rattle.evc.specs.Differences.{difference, sadTotal}
-use Rattle.sad.specs.Rests.{strided, rest}
+use Rattle.planes.specs.Blocks.{strided, rest}
+use Rattle.planes.proofs.Replies.{alike, rest-alike}
 use Rattle.sad.specs.Edges.{edged, Plain}
-use Rattle.sad.proofs.Replies.{alike, rest-alike, sad-alike}
+use Rattle.sad.proofs.Replies.{sad-alike}
 use Rattle.sad.proofs.AtEdges.{as-bits, of-bits, is-plain, plain-alike, plain-inside}
 use Rattle.sad.proofs.sad_edges.of_edges.Statement.{statement}
 use Rattle.sad.proofs.sad_edges.of_edges.Tie as tie

@@ -1,20 +1,22 @@
 -- `evce_ssd_16b` meets its contract: each refusal is the first broken test, and what is left is read alike. Assumes nothing.
 use mathlib.Core.Path.{_≡_, refl, sym, ap, _∙_}
 use mathlib.Core.Bool.{false, _||_}
-use Prim.Native.Nat.{ℕ, _+_, _*_, _-_}
+use Prim.Native.Nat.{ℕ, _+_, _*_, _-_, _^_}
 use native.Mathlib.Omega.{arith}
 use borrow.Author.Needs.{needs}
 use lib.Dec.{ltb}
 use lib.IntN.{pos}
 use lib.ListN.{length}
 use Rattle.evc.specs.Tests.{outside}
-use Rattle.evc.specs.Planes.{Block, inPlane, inPacked}
-use Rattle.sad.specs.Areas.{planeOf, outsidePlane}
-use Rattle.sad.specs.Totals.{TwoBlocks}
-use Rattle.sad.proofs.Booleans.{inside}
-use Rattle.sad.proofs.Planes.{is-inside, rows-inside, plane-alike}
-use Rattle.sad.proofs.Replies.{rest-alike, ssd-alike}
-use Rattle.sad.proofs.Logs.{logs-small, side-small, ssd-size, ssd-depth, ssd-area, ssd-second, ssd-rest}
+use Rattle.evc.specs.Planes.{Block, inPlane, inPacked, planeOf}
+use Rattle.evc.proofs.Tests.{outside-no}
+use Rattle.planes.specs.Areas.{outsidePlane}
+use Rattle.planes.specs.Blocks.{TwoBlocks}
+use Rattle.planes.proofs.Planes.{is-inside, rows-inside, plane-alike}
+use Rattle.planes.proofs.Replies.{rest-alike}
+use Rattle.planes.proofs.SmallSides.{logs-small, side-small, shifted, shifted-is}
+use Rattle.sad.proofs.Replies.{ssd-alike}
+use Rattle.sad.proofs.Logs.{ssd-size, ssd-depth, ssd-area, ssd-second, ssd-rest}
 use Rattle.sad.proofs.ssd.evce_ssd_16b.Statement.{statement}
 use Rattle.sad.proofs.ssd.evce_ssd_16b.Tie as tie
 
@@ -29,21 +31,21 @@ B c w h = let a = c .before .before .args in inPacked (a .cur .now) w h (a .dept
 sized : (c : tie.Else1) → let a = c .before .before .before .before .args in ltb 6 (a .log2-w) || ltb 6 (a .log2-h) ≡ false
 sized c = sym (c .before .logs .ensures) ∙ c .if1 .left
 
-deep : (c : tie.Else2) → outside 8 14 (c .before .before .before .before .before .before .before .before .args .depth) ≡ false
+deep : (c : tie.Else2) → outside 8 14 (c .before .before .before .before .before .before .args .depth) ≡ false
 deep c = sym (c .before .wrong-depth .ensures) ∙ c .if2 .left
 
 one :
     (c : tie.Else3) →
     let s = c .before .before .before .before in
-    let a = s .before .before .before .before .before .before .args in
-    outsidePlane (length (a .org .now)) (a .width) (a .height) (a .stride) (a .x) (a .y) (s .before .side .result) (s .side2 .result) ≡ false
+    let a = s .before .before .before .before .args in
+    outsidePlane (length (a .org .now)) (a .width) (a .height) (a .stride) (a .x) (a .y) (shifted (a .log2-w)) (shifted (a .log2-h)) ≡ false
 one c = sym (c .before .outside-plane .ensures) ∙ c .if3 .left
 
 two :
     (c : tie.Else4) →
     let s = c .before .before .before .before .before .before in
-    let a = s .before .before .before .before .before .before .args in
-    outsidePlane (length (a .cur .now)) (s .before .side .result) (s .side2 .result) (s .before .side .result) 0 0 (s .before .side .result) (s .side2 .result)
+    let a = s .before .before .before .before .args in
+    outsidePlane (length (a .cur .now)) (shifted (a .log2-w)) (shifted (a .log2-h)) (shifted (a .log2-w)) 0 0 (shifted (a .log2-w)) (shifted (a .log2-h))
     ≡ false
 two c = sym (c .before .outside-plane2 .ensures) ∙ c .if4 .left
 
@@ -55,11 +57,18 @@ returns c =
     let a = c .before .before .before .before .args in
     ssd-size (a .log2-w) (a .log2-h) (a .depth) (A (c .before .before)) (B (c .before .before)) (sym (c .before .logs .ensures) ∙ c .if1 .taken)
 
-side-requires : tie.Need-side-requires
-side-requires c κs = let a = c .before .before .before .before .args in logs-small (a .log2-w) (a .log2-h) (sized c) .0
+-- the sides
+wide : (c : tie.Else1) → let a = c .before .before .before .before .args in shifted (a .log2-w) ≡ 2 ^ a .log2-w
+wide c = let a = c .before .before .before .before .args in shifted-is (a .log2-w) (logs-small (a .log2-w) (a .log2-h) (sized c) .0)
 
-side-requires-2 : tie.Need-side-requires-2
-side-requires-2 c κs = let a = c .before .before .before .before .before .args in logs-small (a .log2-w) (a .log2-h) (sized (c .before)) .1
+high : (c : tie.Else1) → let a = c .before .before .before .before .args in shifted (a .log2-h) ≡ 2 ^ a .log2-h
+high c = let a = c .before .before .before .before .args in shifted-is (a .log2-h) (logs-small (a .log2-w) (a .log2-h) (sized c) .1)
+
+shl-w : tie.Need-shl-w
+shl-w c = let a = c .before .before .before .before .args in omega (arith, logs-small (a .log2-w) (a .log2-h) (sized c) .0)
+
+shl-h : tie.Need-shl-h
+shl-h c = let a = c .before .before .before .before .args in omega (arith, logs-small (a .log2-w) (a .log2-h) (sized c) .1)
 
 wrong-depth-requires : tie.Need-wrong-depth-requires
 wrong-depth-requires c κs = search needs
@@ -67,9 +76,9 @@ wrong-depth-requires c κs = search needs
 returns-2 : tie.Need-returns-2
 returns-2 c =
     let s = c .before .before in
-    let a = s .before .before .before .before .before .before .args in
-    ssd-depth (a .log2-w) (a .log2-h) (a .depth) (A (s .before .before .before .before)) (B (s .before .before .before .before)) (s .before .side .result)
-    (s .side2 .result) (s .before .side .ensures) (s .side2 .ensures) (sized (s .before .before)) (sym (c .before .wrong-depth .ensures) ∙ c .if2 .taken)
+    let a = s .before .before .before .before .args in
+    ssd-depth (a .log2-w) (a .log2-h) (a .depth) (A (s .before .before)) (B (s .before .before)) (shifted (a .log2-w))
+    (shifted (a .log2-h)) (wide s) (high s) (sized s) (sym (c .before .wrong-depth .ensures) ∙ c .if2 .taken)
 
 outside-plane-requires : tie.Need-outside-plane-requires
 outside-plane-requires c κs = search needs
@@ -77,9 +86,9 @@ outside-plane-requires c κs = search needs
 returns-3 : tie.Need-returns-3
 returns-3 c =
     let s = c .before .before .before .before in
-    let a = s .before .before .before .before .before .before .args in
-    ssd-area (a .log2-w) (a .log2-h) (a .depth) (A (s .before .before .before .before)) (B (s .before .before .before .before)) (s .before .side .result)
-    (s .side2 .result) (s .before .side .ensures) (s .side2 .ensures) (sized (s .before .before)) (deep (c .before .before))
+    let a = s .before .before .before .before .args in
+    ssd-area (a .log2-w) (a .log2-h) (a .depth) (A (s .before .before)) (B (s .before .before)) (shifted (a .log2-w))
+    (shifted (a .log2-h)) (wide s) (high s) (sized s) (deep (c .before .before))
     (sym (c .before .outside-plane .ensures) ∙ c .if3 .taken)
 
 outside-plane-requires-2 : tie.Need-outside-plane-requires-2
@@ -88,30 +97,30 @@ outside-plane-requires-2 c κs = search needs
 returns-4 : tie.Need-returns-4
 returns-4 c =
     let s = c .before .before .before .before .before .before in
-    let a = s .before .before .before .before .before .before .args in
-    ssd-second (a .log2-w) (a .log2-h) (a .depth) (A (s .before .before .before .before)) (B (s .before .before .before .before)) (s .before .side .result)
-    (s .side2 .result) (s .before .side .ensures) (s .side2 .ensures) (sized (s .before .before)) (deep (c .before .before .before .before))
+    let a = s .before .before .before .before .args in
+    ssd-second (a .log2-w) (a .log2-h) (a .depth) (A (s .before .before)) (B (s .before .before)) (shifted (a .log2-w))
+    (shifted (a .log2-h)) (wide s) (high s) (sized s) (deep (c .before .before .before .before))
     (one (c .before .before)) (sym (c .before .outside-plane2 .ensures) ∙ c .if4 .taken)
 
 -- both blocks lie inside their buffers
 blocks :
     (c : tie.Else4) →
     let s = c .before .before .before .before .before .before in
-    let a = s .before .before .before .before .before .before .args in
-    TwoBlocks (s .before .side .result) (s .side2 .result) (length (a .org .now)) (a .y * a .stride + a .x) (a .stride) (length (a .cur .now)) 0
-    (s .before .side .result)
+    let a = s .before .before .before .before .args in
+    TwoBlocks (shifted (a .log2-w)) (shifted (a .log2-h)) (length (a .org .now)) (a .y * a .stride + a .x) (a .stride) (length (a .cur .now)) 0
+    (shifted (a .log2-w))
 blocks c =
     let s = c .before .before .before .before .before .before in
-    let a = s .before .before .before .before .before .before .args in
-    let k = logs-small (a .log2-w) (a .log2-h) (sized (s .before .before)) in
-    let w = s .before .side .result in
-    let h = s .side2 .result in
+    let a = s .before .before .before .before .args in
+    let k = logs-small (a .log2-w) (a .log2-h) (sized s) in
+    let w = shifted (a .log2-w) in
+    let h = shifted (a .log2-h) in
     record {
-      narrow = side-small (a .log2-w) w (s .before .side .ensures) (k .0) .1;
-      low = side-small (a .log2-h) h (s .side2 .ensures) (k .1) .1;
+      narrow = side-small (a .log2-w) w (wide s) (k .0) .1;
+      low = side-small (a .log2-h) h (high s) (k .1) .1;
       one =
           rows-inside (length (a .org .now)) (a .width) (a .height) (a .stride) (a .x) (a .y) w h
-          (side-small (a .log2-h) h (s .side2 .ensures) (k .1) .0)
+          (side-small (a .log2-h) h (high s) (k .1) .0)
           (is-inside (length (a .org .now)) (a .width) (a .height) (a .stride) (a .x) (a .y) w h (one (c .before .before)));
       two = omega (arith, is-inside (length (a .cur .now)) w h w 0 0 w h (two c) .formed .long);
     }
@@ -123,19 +132,19 @@ add-of-blocks : tie.Need-add-of-blocks
 add-of-blocks c = omega (arith, blocks c .one)
 
 of-blocks-requires : tie.Need-of-blocks-requires
-of-blocks-requires c κs = (blocks c, inside 8 14 _ (deep (c .before .before .before .before)))
+of-blocks-requires c κs = (blocks c, outside-no 8 14 _ (deep (c .before .before .before .before)))
 
 returns-5 : tie.Need-returns-5
 returns-5 c =
     let s = c .before .before .before .before .before .before .before in
-    let a = s .before .before .before .before .before .before .args in
-    let w = s .before .side .result in
-    let h = s .side2 .result in
+    let a = s .before .before .before .before .args in
+    let w = shifted (a .log2-w) in
+    let h = shifted (a .log2-h) in
     let p = plane-alike (a .org .now) (a .width) (a .height) (a .stride) (a .x) (a .y) w h (a .depth) (a .y * a .stride + a .x) refl in
     let q = plane-alike (a .cur .now) w h w 0 0 w h (a .depth) 0 (omega arith) in
     c .of-blocks .ensures ∙ rest-alike p q _ _ (ap pos (ssd-alike p q (2 * (a .depth - 8))))
-    ∙ ssd-rest (a .log2-w) (a .log2-h) (a .depth) (A (s .before .before .before .before)) (B (s .before .before .before .before)) w h (s .before .side .ensures)
-    (s .side2 .ensures) (sized (s .before .before)) (deep (c .before .before .before .before .before)) (one (c .before .before .before)) (two (c .before))
+    ∙ ssd-rest (a .log2-w) (a .log2-h) (a .depth) (A (s .before .before)) (B (s .before .before)) w h (wide s)
+    (high s) (sized s) (deep (c .before .before .before .before .before)) (one (c .before .before .before)) (two (c .before))
 
 pub evce-ssd-16b-spec : {M : Type 1} → statement M
 evce-ssd-16b-spec =
@@ -143,8 +152,8 @@ evce-ssd-16b-spec =
     (tie.spec
     logs-requires
     returns
-    side-requires
-    side-requires-2
+    shl-w
+    shl-h
     wrong-depth-requires
     returns-2
     outside-plane-requires

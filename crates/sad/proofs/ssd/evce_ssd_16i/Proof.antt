@@ -1,7 +1,8 @@
 -- `evce_ssd_16i` meets its contract: each refusal is the first broken test, and what is left is read alike. Assumes nothing.
 use mathlib.Core.Path.{_≡_, sym, ap, _∙_}
 use mathlib.Core.Bool.{false, _||_}
-use Prim.Native.Nat.{ℕ, _*_, _-_}
+use Prim.Native.Nat.{ℕ, _*_, _-_, _^_}
+use native.Mathlib.Omega.{arith}
 use borrow.Author.Needs.{needs}
 use lib.Dec.{ltb}
 use lib.IntN.{pos}
@@ -9,14 +10,16 @@ use lib.ListN.{length}
 use Rattle.evc.specs.Answers.{squaredReading}
 use Rattle.evc.specs.Tests.{outside}
 use Rattle.evc.specs.Differences.{difference, ssdTotal}
-use Rattle.evc.specs.Planes.{Block, atEdges}
-use Rattle.sad.specs.Areas.{planeOf, outsideEdges}
-use Rattle.sad.specs.Rests.{rest}
+use Rattle.evc.specs.Planes.{Block, atEdges, planeOf}
+use Rattle.evc.proofs.Tests.{outside-no}
+use Rattle.planes.specs.Areas.{outsideEdges}
+use Rattle.planes.specs.Blocks.{rest}
+use Rattle.planes.proofs.Replies.{rest-alike}
+use Rattle.planes.proofs.SmallSides.{logs-small, side-small, shifted, shifted-is}
 use Rattle.sad.specs.Edges.{edged, BothEdges}
-use Rattle.sad.proofs.Booleans.{inside}
 use Rattle.sad.proofs.AtEdges.{edges-in, edges-alike, as-bits, of-bits}
-use Rattle.sad.proofs.Replies.{rest-alike, ssd-alike}
-use Rattle.sad.proofs.Logs.{logs-small, side-small, ssd-size, ssd-depth, ssd-area, ssd-second, ssd-rest}
+use Rattle.sad.proofs.Replies.{ssd-alike}
+use Rattle.sad.proofs.Logs.{ssd-size, ssd-depth, ssd-area, ssd-second, ssd-rest}
 use Rattle.sad.proofs.ssd.evce_ssd_16i.Statement.{statement}
 use Rattle.sad.proofs.ssd.evce_ssd_16i.Tie as tie
 
@@ -31,48 +34,48 @@ B c w h = let a = c .before .before .args in atEdges (planeOf (a .two .now) (a .
 sized : (c : tie.Else1) → let a = c .before .before .before .before .args in ltb 6 (a .log2-w) || ltb 6 (a .log2-h) ≡ false
 sized c = sym (c .before .logs .ensures) ∙ c .if1 .left
 
-deep : (c : tie.Else2) → outside 8 14 (c .before .before .before .before .before .before .before .before .args .depth) ≡ false
+deep : (c : tie.Else2) → outside 8 14 (c .before .before .before .before .before .before .args .depth) ≡ false
 deep c = sym (c .before .wrong-depth .ensures) ∙ c .if2 .left
 
 -- the positions come as their bits
 far1 :
     (c : tie.After-outside-edges) →
     let s = c .before .before .before in
-    let a = s .before .before .before .before .before .before .args in
+    let a = s .before .before .before .before .args in
     c .outside-edges .result
-    ≡ outsideEdges (length (a .one .now)) (a .width1) (a .height1) (a .stride1) (a .x) (a .y) (s .before .side .result) (s .side2 .result)
+    ≡ outsideEdges (length (a .one .now)) (a .width1) (a .height1) (a .stride1) (a .x) (a .y) (shifted (a .log2-w)) (shifted (a .log2-h))
 far1 c =
     let s = c .before .before .before in
-    let t = s .before .before .before .before .before .before in
+    let t = s .before .before .before .before in
     let a = t .args in
-    of-bits (λ x y. c .outside-edges .result ≡ outsideEdges (length (a .one .now)) (a .width1) (a .height1) (a .stride1) x y (s .before .side .result) (s .side2 .result))
+    of-bits (λ x y. c .outside-edges .result ≡ outsideEdges (length (a .one .now)) (a .width1) (a .height1) (a .stride1) x y (shifted (a .log2-w)) (shifted (a .log2-h)))
     (t .fits .x) (t .fits .y) (c .outside-edges .ensures)
 
 far2 :
     (c : tie.After-outside-edges2) →
     let s = c .before .before .before .before .before in
-    let a = s .before .before .before .before .before .before .args in
+    let a = s .before .before .before .before .args in
     c .outside-edges2 .result
-    ≡ outsideEdges (length (a .two .now)) (a .width2) (a .height2) (a .stride2) (a .x) (a .y) (s .before .side .result) (s .side2 .result)
+    ≡ outsideEdges (length (a .two .now)) (a .width2) (a .height2) (a .stride2) (a .x) (a .y) (shifted (a .log2-w)) (shifted (a .log2-h))
 far2 c =
     let s = c .before .before .before .before .before in
-    let t = s .before .before .before .before .before .before in
+    let t = s .before .before .before .before in
     let a = t .args in
-    of-bits (λ x y. c .outside-edges2 .result ≡ outsideEdges (length (a .two .now)) (a .width2) (a .height2) (a .stride2) x y (s .before .side .result) (s .side2 .result))
+    of-bits (λ x y. c .outside-edges2 .result ≡ outsideEdges (length (a .two .now)) (a .width2) (a .height2) (a .stride2) x y (shifted (a .log2-w)) (shifted (a .log2-h)))
     (t .fits .x) (t .fits .y) (c .outside-edges2 .ensures)
 
 one :
     (c : tie.Else3) →
     let s = c .before .before .before .before in
-    let a = s .before .before .before .before .before .before .args in
-    outsideEdges (length (a .one .now)) (a .width1) (a .height1) (a .stride1) (a .x) (a .y) (s .before .side .result) (s .side2 .result) ≡ false
+    let a = s .before .before .before .before .args in
+    outsideEdges (length (a .one .now)) (a .width1) (a .height1) (a .stride1) (a .x) (a .y) (shifted (a .log2-w)) (shifted (a .log2-h)) ≡ false
 one c = sym (far1 (c .before)) ∙ c .if3 .left
 
 two :
     (c : tie.Else4) →
     let s = c .before .before .before .before .before .before in
-    let a = s .before .before .before .before .before .before .args in
-    outsideEdges (length (a .two .now)) (a .width2) (a .height2) (a .stride2) (a .x) (a .y) (s .before .side .result) (s .side2 .result) ≡ false
+    let a = s .before .before .before .before .args in
+    outsideEdges (length (a .two .now)) (a .width2) (a .height2) (a .stride2) (a .x) (a .y) (shifted (a .log2-w)) (shifted (a .log2-h)) ≡ false
 two c = sym (far2 (c .before)) ∙ c .if4 .left
 
 logs-requires : tie.Need-logs-requires
@@ -83,11 +86,18 @@ returns c =
     let a = c .before .before .before .before .args in
     ssd-size (a .log2-w) (a .log2-h) (a .depth) (A (c .before .before)) (B (c .before .before)) (sym (c .before .logs .ensures) ∙ c .if1 .taken)
 
-side-requires : tie.Need-side-requires
-side-requires c κs = let a = c .before .before .before .before .args in logs-small (a .log2-w) (a .log2-h) (sized c) .0
+-- the sides
+wide : (c : tie.Else1) → let a = c .before .before .before .before .args in shifted (a .log2-w) ≡ 2 ^ a .log2-w
+wide c = let a = c .before .before .before .before .args in shifted-is (a .log2-w) (logs-small (a .log2-w) (a .log2-h) (sized c) .0)
 
-side-requires-2 : tie.Need-side-requires-2
-side-requires-2 c κs = let a = c .before .before .before .before .before .args in logs-small (a .log2-w) (a .log2-h) (sized (c .before)) .1
+high : (c : tie.Else1) → let a = c .before .before .before .before .args in shifted (a .log2-h) ≡ 2 ^ a .log2-h
+high c = let a = c .before .before .before .before .args in shifted-is (a .log2-h) (logs-small (a .log2-w) (a .log2-h) (sized c) .1)
+
+shl-w : tie.Need-shl-w
+shl-w c = let a = c .before .before .before .before .args in omega (arith, logs-small (a .log2-w) (a .log2-h) (sized c) .0)
+
+shl-h : tie.Need-shl-h
+shl-h c = let a = c .before .before .before .before .args in omega (arith, logs-small (a .log2-w) (a .log2-h) (sized c) .1)
 
 wrong-depth-requires : tie.Need-wrong-depth-requires
 wrong-depth-requires c κs = search needs
@@ -95,9 +105,9 @@ wrong-depth-requires c κs = search needs
 returns-2 : tie.Need-returns-2
 returns-2 c =
     let s = c .before .before in
-    let a = s .before .before .before .before .before .before .args in
-    ssd-depth (a .log2-w) (a .log2-h) (a .depth) (A (s .before .before .before .before)) (B (s .before .before .before .before)) (s .before .side .result)
-    (s .side2 .result) (s .before .side .ensures) (s .side2 .ensures) (sized (s .before .before)) (sym (c .before .wrong-depth .ensures) ∙ c .if2 .taken)
+    let a = s .before .before .before .before .args in
+    ssd-depth (a .log2-w) (a .log2-h) (a .depth) (A (s .before .before)) (B (s .before .before)) (shifted (a .log2-w))
+    (shifted (a .log2-h)) (wide s) (high s) (sized s) (sym (c .before .wrong-depth .ensures) ∙ c .if2 .taken)
 
 outside-edges-requires : tie.Need-outside-edges-requires
 outside-edges-requires c κs = search needs
@@ -105,9 +115,9 @@ outside-edges-requires c κs = search needs
 returns-3 : tie.Need-returns-3
 returns-3 c =
     let s = c .before .before .before .before in
-    let a = s .before .before .before .before .before .before .args in
-    ssd-area (a .log2-w) (a .log2-h) (a .depth) (A (s .before .before .before .before)) (B (s .before .before .before .before)) (s .before .side .result)
-    (s .side2 .result) (s .before .side .ensures) (s .side2 .ensures) (sized (s .before .before)) (deep (c .before .before))
+    let a = s .before .before .before .before .args in
+    ssd-area (a .log2-w) (a .log2-h) (a .depth) (A (s .before .before)) (B (s .before .before)) (shifted (a .log2-w))
+    (shifted (a .log2-h)) (wide s) (high s) (sized s) (deep (c .before .before))
     (sym (far1 (c .before)) ∙ c .if3 .taken)
 
 outside-edges-requires-2 : tie.Need-outside-edges-requires-2
@@ -116,35 +126,35 @@ outside-edges-requires-2 c κs = search needs
 returns-4 : tie.Need-returns-4
 returns-4 c =
     let s = c .before .before .before .before .before .before in
-    let a = s .before .before .before .before .before .before .args in
-    ssd-second (a .log2-w) (a .log2-h) (a .depth) (A (s .before .before .before .before)) (B (s .before .before .before .before)) (s .before .side .result)
-    (s .side2 .result) (s .before .side .ensures) (s .side2 .ensures) (sized (s .before .before)) (deep (c .before .before .before .before))
+    let a = s .before .before .before .before .args in
+    ssd-second (a .log2-w) (a .log2-h) (a .depth) (A (s .before .before)) (B (s .before .before)) (shifted (a .log2-w))
+    (shifted (a .log2-h)) (wide s) (high s) (sized s) (deep (c .before .before .before .before))
     (one (c .before .before)) (sym (far2 (c .before)) ∙ c .if4 .taken)
 
 of-edges-requires : tie.Need-of-edges-requires
 of-edges-requires c κs =
     let s = c .before .before .before .before .before .before in
-    let t = s .before .before .before .before .before .before in
+    let t = s .before .before .before .before in
     let a = t .args in
-    let k = logs-small (a .log2-w) (a .log2-h) (sized (s .before .before)) in
-    let w = s .before .side .result in
-    let h = s .side2 .result in
-    let u = side-small (a .log2-w) w (s .before .side .ensures) (k .0) in
-    let v = side-small (a .log2-h) h (s .side2 .ensures) (k .1) in
+    let k = logs-small (a .log2-w) (a .log2-h) (sized s) in
+    let w = shifted (a .log2-w) in
+    let h = shifted (a .log2-h) in
+    let u = side-small (a .log2-w) w (wide s) (k .0) in
+    let v = side-small (a .log2-h) h (high s) (k .1) in
     as-bits (λ x y. BothEdges w h (length (a .one .now)) (a .stride1) (length (a .two .now)) (a .stride2) x y (a .depth)) (t .fits .x) (t .fits .y)
     (record {
       one = edges-in (length (a .one .now)) (a .width1) (a .height1) (a .stride1) (a .x) (a .y) w h u v (one (c .before .before));
       two = edges-in (length (a .two .now)) (a .width2) (a .height2) (a .stride2) (a .x) (a .y) w h u v (two c);
-      deep = inside 8 14 (a .depth) (deep (c .before .before .before .before));
+      deep = outside-no 8 14 (a .depth) (deep (c .before .before .before .before));
     })
 
 returns-5 : tie.Need-returns-5
 returns-5 c =
     let s = c .before .before .before .before .before .before .before in
-    let t = s .before .before .before .before .before .before in
+    let t = s .before .before .before .before in
     let a = t .args in
-    let w = s .before .side .result in
-    let h = s .side2 .result in
+    let w = shifted (a .log2-w) in
+    let h = shifted (a .log2-h) in
     let p = edges-alike (a .one .now) (a .width1) (a .height1) (a .stride1) (a .x) (a .y) w h (a .depth) in
     let q = edges-alike (a .two .now) (a .width2) (a .height2) (a .stride2) (a .x) (a .y) w h (a .depth) in
     of-bits
@@ -154,8 +164,8 @@ returns-5 c =
     squaredReading (c .of-edges .result) ≡ rest w h A B (pos (ssdTotal (2 * (a .depth - 8)) w h (difference A B))))
     (t .fits .x) (t .fits .y) (c .of-edges .ensures)
     ∙ rest-alike p q _ _ (ap pos (ssd-alike p q (2 * (a .depth - 8))))
-    ∙ ssd-rest (a .log2-w) (a .log2-h) (a .depth) (A (s .before .before .before .before)) (B (s .before .before .before .before)) w h (s .before .side .ensures)
-    (s .side2 .ensures) (sized (s .before .before)) (deep (c .before .before .before .before .before)) (one (c .before .before .before)) (two (c .before))
+    ∙ ssd-rest (a .log2-w) (a .log2-h) (a .depth) (A (s .before .before)) (B (s .before .before)) w h (wide s)
+    (high s) (sized s) (deep (c .before .before .before .before .before)) (one (c .before .before .before)) (two (c .before))
 
 pub evce-ssd-16i-spec : {M : Type 1} → statement M
 evce-ssd-16i-spec =
@@ -163,8 +173,8 @@ evce-ssd-16i-spec =
     (tie.spec
     logs-requires
     returns
-    side-requires
-    side-requires-2
+    shl-w
+    shl-h
     wrong-depth-requires
     returns-2
     outside-edges-requires

@@ -4,7 +4,7 @@ use native.Mathlib.Omega.{arith}
 use borrow.Author.Tests.{le-leb, lt-leb}
 use mir.Syntax.{w64}
 use mir.Facts.{toZ-pos}
-use Rattle.sad.proofs.Laws.{div-some, div-none}
+use Rattle.integers.proofs.Bits.{div-some, div-none}
 use borrow.Author.Needs.{needs}
 use Rattle.sad.proofs.ssd_blocks.end.Statement.{statement}
 use Rattle.sad.proofs.ssd_blocks.end.Tie as tie

@@ -11,9 +11,10 @@ use mir.Facts.{toZ-ofZ}
 use Rattle.order.specs.Positions.{reach}
 use Rattle.evc.specs.Answers.{squaredReading}
 use Rattle.evc.specs.Differences.{difference, ssdTotal}
-use Rattle.sad.specs.Rests.{rest}
+use Rattle.planes.specs.Blocks.{rest}
+use Rattle.planes.proofs.Replies.{rest-alike}
 use Rattle.sad.specs.Edges.{edged, Plain}
-use Rattle.sad.proofs.Replies.{rest-alike, ssd-alike}
+use Rattle.sad.proofs.Replies.{ssd-alike}
 use Rattle.sad.proofs.AtEdges.{as-bits, of-bits, is-plain, plain-alike, plain-inside}
 use Rattle.sad.proofs.ssd_blocks.of_edges.Statement.{statement}
 use Rattle.sad.proofs.ssd_blocks.of_edges.Tie as tie

@@ -6,9 +6,10 @@ use lib.IntN.{pos}
 use lib.ListN.{length}
 use mir.Syntax.{w16}
 use mir.Val.{toZ, ofZ}
-use Rattle.sad.specs.Rests.{strided}
+use Rattle.planes.specs.Blocks.{strided}
+use Rattle.planes.proofs.Replies.{Alike, rest-alike}
 use Rattle.sad.specs.Edges.{edged, EdgesIn}
-use Rattle.sad.proofs.Replies.{Alike, rest-alike, ssd-alike}
+use Rattle.sad.proofs.Replies.{ssd-alike}
 use Rattle.sad.proofs.AtEdges.{filled-in, filled-long, as-bits, of-bits}
 use Rattle.sad.proofs.ssd_blocks.through.Statement.{statement}
 use Rattle.sad.proofs.ssd_blocks.through.Tie as tie

@@ -1,0 +1,121 @@
+-- `diff_rows` meets its contract. Assumes nothing.
+use mathlib.Core.Path.{_≡_, sym, _∙_}
+use Prim.Native.Nat.{ℕ, _+_, _*_, _-_, _≤_}
+use native.Mathlib.Omega.{arith}
+use lib.ListN.{length}
+use Rattle.integers.specs.Lists.{tab}
+use Rattle.integers.proofs.Written.{tab-ext, grid-at}
+use Rattle.integers.proofs.Grid.{Wrote, wrote-start, wrote-row, wrote-end, wrote-long, row-room, row-long}
+use Rattle.evc.specs.Differences.{diffAt}
+use Rattle.planes.specs.Blocks.{cell}
+use Rattle.diff.specs.Small.{SmallRow, apartFrom}
+use Rattle.diff.proofs.Rows.{small-one, small-two}
+use Rattle.diff.proofs.diff.diff_rows.Statement.{statement}
+use Rattle.diff.proofs.diff.diff_rows.Tie as tie
+
+abbrev Inv-loop : tie.InvT-loop
+Inv-loop a a-at a-stride b b-at b-stride w h out₀ j₀ out j =
+    Wrote w h (diffAt w (apartFrom a a-at a-stride b b-at b-stride)) out₀ out j
+
+abbrev μ-loop : tie.MeasureT-loop
+μ-loop a a-at a-stride b b-at b-stride w h out₀ j₀ out j = h - j
+
+loop-holds : tie.Need-loop-holds Inv-loop μ-loop
+loop-holds c = wrote-start (c .before .before .pre .room)
+
+-- row j has room in the output
+room : (c : tie.In-loop Inv-loop μ-loop) → c .before .loop .j * c .before .before .before .before .args .w + c .before .before .before .before .args .w ≤ length (c .before .loop .out)
+room c = row-room (c .before .loop .inv) (c .loop-test .taken)
+
+mul-from : tie.Need-mul-from Inv-loop μ-loop
+mul-from c = omega (arith, room c, wrote-long (c .before .loop .inv), c .before .before .before .before .good)
+
+add-to : tie.Need-add-to Inv-loop μ-loop
+add-to c = omega (arith, room c, wrote-long (c .before .loop .inv), c .before .before .before .before .good)
+
+-- and row j of each block is tested
+one : (c : tie.In-loop Inv-loop μ-loop) → let a = c .before .before .before .before .args in SmallRow (a .w) (a .a .now) (a .a-at + c .before .loop .j * a .a-stride)
+one c = let k = c .before .before .before .before .pre in small-one (k .blocks) (k .small) (c .loop-test .taken)
+
+two : (c : tie.In-loop Inv-loop μ-loop) → let a = c .before .before .before .before .args in SmallRow (a .w) (a .b .now) (a .b-at + c .before .loop .j * a .b-stride)
+two c = let k = c .before .before .before .before .pre in small-two (k .blocks) (k .small) (c .loop-test .taken)
+
+mul-diff-row : tie.Need-mul-diff-row Inv-loop μ-loop
+mul-diff-row c = omega (arith, one c .inside, c .before .before .before .before .good)
+
+add-diff-row : tie.Need-add-diff-row Inv-loop μ-loop
+add-diff-row c = omega (arith, one c .inside, c .before .before .before .before .good)
+
+mul-diff-row-2 : tie.Need-mul-diff-row-2 Inv-loop μ-loop
+mul-diff-row-2 c = omega (arith, two c .inside, c .before .before .before .before .good)
+
+add-diff-row-2 : tie.Need-add-diff-row-2 Inv-loop μ-loop
+add-diff-row-2 c = omega (arith, two c .inside, c .before .before .before .before .good)
+
+mul-diff-row-3 : tie.Need-mul-diff-row-3 Inv-loop μ-loop
+mul-diff-row-3 c = omega (arith, room c, wrote-long (c .before .loop .inv), c .before .before .before .before .good)
+
+sub-diff-row : tie.Need-sub-diff-row Inv-loop μ-loop
+sub-diff-row c = omega arith
+
+part-diff-row-start : tie.Need-part-diff-row-start Inv-loop μ-loop
+part-diff-row-start c = omega arith
+
+part-diff-row-end : tie.Need-part-diff-row-end Inv-loop μ-loop
+part-diff-row-end c = room c
+
+diff-row-requires : tie.Need-diff-row-requires Inv-loop μ-loop
+diff-row-requires c κs = ((one (c .before), two (c .before)), row-long (c .before .before .loop .inv) (c .before .loop-test .taken))
+
+-- what the row's differences are, by their places in the output
+placed :
+    (c : tie.After-diff-row Inv-loop μ-loop) →
+    let a = c .before .before .before .before .before .before .args in
+    let j = c .before .before .before .loop .j in
+    c .diff-row .last .1 .1 .1 .1 .1 .0 ≡ tab (a .w) (λ i. diffAt (a .w) (apartFrom (a .a .now) (a .a-at) (a .a-stride) (a .b .now) (a .b-at) (a .b-stride)) (j * a .w + i))
+unfolding diffAt apartFrom cell
+placed c =
+    let a = c .before .before .before .before .before .before .args in
+    let j = c .before .before .before .loop .j in
+    let d = apartFrom (a .a .now) (a .a-at) (a .a-stride) (a .b .now) (a .b-at) (a .b-stride) in
+    c .diff-row .ensures ∙ tab-ext (a .w) (d j) (λ i. diffAt (a .w) d (j * a .w + i)) (λ i m. sym (grid-at d j i (a .w) m))
+
+add-j : tie.Need-add-j Inv-loop μ-loop
+add-j c = omega arith
+
+loop-less : tie.Need-loop-less Inv-loop μ-loop
+loop-less c = omega arith
+
+loop-again : tie.Need-loop-again Inv-loop μ-loop
+loop-again c =
+    wrote-row (c .before .before .before .before .loop .inv) (c .before .before .before .loop-test .taken) (c .before .diff-row .last .1 .1 .1 .1 .1 .0) (placed (c .before))
+
+same-length : tie.Need-same-length Inv-loop μ-loop
+same-length c = wrote-long (c .before .loop .inv)
+
+returns : tie.Need-returns Inv-loop μ-loop
+returns c = wrote-end (c .before .loop .inv) (c .loop-test .left)
+
+pub diff-rows-spec : {M : Type 1} → statement M
+diff-rows-spec =
+    tie.close
+    (tie.spec
+    Inv-loop
+    μ-loop
+    loop-holds
+    mul-from
+    add-to
+    mul-diff-row
+    add-diff-row
+    mul-diff-row-2
+    add-diff-row-2
+    mul-diff-row-3
+    sub-diff-row
+    part-diff-row-start
+    part-diff-row-end
+    diff-row-requires
+    add-j
+    loop-less
+    loop-again
+    same-length
+    returns)

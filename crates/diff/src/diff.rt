@@ -1,0 +1,152 @@
+// DIFF, after the Rust's evce_diff_16b. Document 01, "Distortion".
+// Differs from the Rust in: a call that breaks a test is refused, and nothing is written before all samples are tested; the depth is an
+// argument. A difference is formed in 32 bits, and fits 16 since both samples were tested.
+ghost use mathlib.Core.Path.{_≡_};
+ghost use Prim.Native.Nat.{_+_, _*_, _<_, _≤_};
+ghost use lib.IntN.{pos, _-ℤ_};
+ghost use lib.ListN.{length, getD};
+ghost use Rattle.integers.specs.Lists.{tab, written};
+ghost use Rattle.evc.specs.Answers.{answerNumber};
+ghost use Rattle.evc.specs.Planes.{planeOf};
+ghost use Rattle.evc.specs.Differences.{diffAt};
+ghost use Rattle.evc.specs.Calls.{diff16bNumber, diff16bExit};
+ghost use Rattle.planes.specs.Blocks.{TwoBlocks, strided};
+ghost use Rattle.diff.specs.Small.{SmallRow, Ready, apartFrom};
+ghost use Rattle.diff.specs.Rests.{Differed};
+use evc::Answer;
+use evc::Refusal;
+
+// First minus second.
+fn minus(p: u16, q: u16) -> i16
+    requires { ⌜ (p < 16384) × (q < 16384) ⌝ }
+    ensures { λ r. ⌜ r ≡ pos p -ℤ pos q ⌝ }
+{
+    let d = (p as i32) - (q as i32);
+    d as i16
+}
+
+// The differences of two rows of w samples, that start at p and q.
+pub(crate) fn diff_row(a: &[u16], p: usize, b: &[u16], q: usize, w: usize, out: &mut [i16])
+    requires { ⌜ SmallRow w (now a) p × SmallRow w (now b) q ⌝ }
+    requires { ⌜ length (now out) ≡ w ⌝ }
+    ensures { λ _. ⌜ now (out .exit) ≡ tab w (λ i. pos (getD (now (a .entry)) (p + i) 0) -ℤ pos (getD (now (b .entry)) (q + i) 0)) ⌝ }
+{
+    for i in 0..w {
+        out[i] = minus(a[p + i], b[q + i]);
+    }
+}
+
+// The differences of two blocks, row after row.
+fn diff_rows(
+    a: &[u16],
+    a_at: usize,
+    a_stride: usize,
+    b: &[u16],
+    b_at: usize,
+    b_stride: usize,
+    w: usize,
+    h: usize,
+    out: &mut [i16],
+)
+    requires { ⌜ Ready w h (now a) «a_at» «a_stride» (now b) «b_at» «b_stride» (length (now out)) ⌝ }
+    ensures { λ _. ⌜ now (out .exit) ≡ written (h * w) (diffAt w (apartFrom (now (a .entry)) «a_at» «a_stride» (now (b .entry)) «b_at» «b_stride»)) (now (out .entry)) ⌝ }
+{
+    for j in 0..h {
+        let from = j * w;
+        let to = from + w;
+        diff_row(
+            a,
+            a_at + j * a_stride,
+            b,
+            b_at + j * b_stride,
+            w,
+            &mut out[from..to],
+        );
+    }
+}
+
+// The same, with the common widths as literals.
+fn diff_block(
+    a: &[u16],
+    a_at: usize,
+    a_stride: usize,
+    b: &[u16],
+    b_at: usize,
+    b_stride: usize,
+    w: usize,
+    h: usize,
+    out: &mut [i16],
+)
+    requires { ⌜ Ready w h (now a) «a_at» «a_stride» (now b) «b_at» «b_stride» (length (now out)) ⌝ }
+    ensures { λ _. ⌜ now (out .exit) ≡ written (h * w) (diffAt w (apartFrom (now (a .entry)) «a_at» «a_stride» (now (b .entry)) «b_at» «b_stride»)) (now (out .entry)) ⌝ }
+{
+    match w {
+        64 => diff_rows(a, a_at, a_stride, b, b_at, b_stride, 64, h, out),
+        32 => diff_rows(a, a_at, a_stride, b, b_at, b_stride, 32, h, out),
+        16 => diff_rows(a, a_at, a_stride, b, b_at, b_stride, 16, h, out),
+        8 => diff_rows(a, a_at, a_stride, b, b_at, b_stride, 8, h, out),
+        4 => diff_rows(a, a_at, a_stride, b, b_at, b_stride, 4, h, out),
+        _ => diff_rows(a, a_at, a_stride, b, b_at, b_stride, w, h, out),
+    }
+}
+
+// Two blocks of samples, after all other tests: the samples are tested, and only then the differences are written.
+fn of_blocks(
+    a: &[u16],
+    a_at: usize,
+    a_stride: usize,
+    b: &[u16],
+    b_at: usize,
+    b_stride: usize,
+    w: usize,
+    h: usize,
+    depth: u8,
+    out: &mut [i16],
+) -> Answer
+    requires { ⌜ TwoBlocks w h (length (now a)) «a_at» «a_stride» (length (now b)) «b_at» «b_stride» ⌝ }
+    requires { ⌜ (depth ≤ 14) × (h * w ≤ length (now out)) ⌝ }
+    ensures { λ r. ⌜ Differed w h (strided (now (a .entry)) «a_at» «a_stride» depth) (strided (now (b .entry)) «b_at» «b_stride» depth) (now (out .entry)) (answerNumber r) (now (out .exit)) ⌝ }
+{
+    let any = crate::any::any_block(a, a_at, a_stride, b, b_at, b_stride, w, h);
+    if any >> depth != 0 {
+        return Answer::Refused(Refusal::Sample);
+    }
+    diff_block(a, a_at, a_stride, b, b_at, b_stride, w, h, out);
+    Answer::Done
+}
+
+pub fn evce_diff_16b(
+    org: &[u16],
+    width: usize,
+    height: usize,
+    stride: usize,
+    x: usize,
+    y: usize,
+    log2_w: usize,
+    log2_h: usize,
+    cur: &[u16],
+    depth: u8,
+    diff: &mut [i16],
+) -> Answer
+    ensures answer { λ r. ⌜ answerNumber r ≡ diff16bNumber (length (now (diff .entry))) (planeOf (now (org .entry)) width height stride) x y «log2_w» «log2_h» (now (cur .entry)) depth ⌝ }
+    ensures exit { λ r. ⌜ now (diff .exit) ≡ diff16bExit (planeOf (now (org .entry)) width height stride) x y «log2_w» «log2_h» (now (cur .entry)) depth (now (diff .entry)) ⌝ }
+{
+    if planes::logs(log2_w, log2_h) {
+        return Answer::Refused(Refusal::Size);
+    }
+    let w = 1usize << log2_w;
+    let h = 1usize << log2_h;
+    if planes::wrong_depth(depth) {
+        return Answer::Refused(Refusal::Depth);
+    }
+    if planes::outside_plane(org.len(), width, height, stride, x, y, w, h) {
+        return Answer::Refused(Refusal::Area);
+    }
+    if planes::outside_plane(cur.len(), w, h, w, 0, 0, w, h) {
+        return Answer::Refused(Refusal::Area);
+    }
+    if diff.len() < h * w {
+        return Answer::Refused(Refusal::Area);
+    }
+    of_blocks(org, y * stride + x, stride, cur, 0, w, w, h, depth, diff)
+}

@@ -1,0 +1,6 @@
+-- Laws that the proofs of the distortion calls share.
+pub mod Far
+pub mod LowMark
+pub mod SmallSides
+pub mod Replies
+pub mod Planes

@@ -1,0 +1,61 @@
+-- `sad_answer` meets its contract. Assumes nothing.
+use mathlib.Core.Path.{_≡_, sym, _∙_}
+use mathlib.Core.Bool.{false}
+use Prim.Native.Nat.{_-_, _^_, _≤_}
+use native.Mathlib.Nat.{div-le-self}
+use native.Mathlib.Omega.{arith}
+use lib.Dec.{leb}
+use borrow.Author.Needs.{needs}
+use borrow.Author.Tests.{lt-ltb, le-ltb, le-leb, lt-leb}
+use Rattle.integers.proofs.Bits.{div-some, div-none}
+use Rattle.evc.specs.Tests.{outside}
+use Rattle.evc.proofs.Tests.{outside-no}
+use Rattle.planes.proofs.marks.sad_answer.Statement.{statement}
+use Rattle.planes.proofs.marks.sad_answer.Tie as tie
+
+wrong-depth-requires : tie.Need-wrong-depth-requires
+wrong-depth-requires c κs = search needs
+
+returns : tie.Need-returns
+returns c = rw (sym (c .before .wrong-depth .ensures) ∙ c .if1 .taken)
+
+-- the depth is allowed from here on
+deep : (c : tie.Else1) → outside 8 14 (c .before .before .args .depth) ≡ false
+deep c = sym (c .before .wrong-depth .ensures) ∙ c .if1 .left
+
+allowed : (c : tie.Else1) → (8 ≤ c .before .before .args .depth) × (c .before .before .args .depth ≤ 14)
+allowed c = outside-no 8 14 (c .before .before .args .depth) (deep c)
+
+shr-if2 : tie.Need-shr-if2
+shr-if2 c = omega (arith, allowed c .1)
+
+returns-2 : tie.Need-returns-2
+returns-2 c =
+    let a = c .before .before .before .args in
+    rw (deep (c .before), le-leb (2 ^ a .depth) (a .any) (div-some (a .any) (a .depth) (c .if2 .taken)))
+
+-- nor does a mark reach it
+marked : (c : tie.Else2) → let a = c .before .before .before .args in leb (2 ^ a .depth) (a .any) ≡ false
+marked c = let a = c .before .before .before .args in lt-leb (2 ^ a .depth) (a .any) (div-none (a .any) (a .depth) (c .if2 .left))
+
+returns-3 : tie.Need-returns-3
+returns-3 c = let a = c .before .before .before .before .args in rw (deep (c .before .before), marked (c .before), lt-ltb 4294967295 (a .sum) (c .if3 .taken))
+
+sub-sad : tie.Need-sub-sad
+sub-sad c = omega (arith, allowed (c .before .before) .0)
+
+cast-sad : tie.Need-cast-sad
+cast-sad c = omega (arith, allowed (c .before .before) .1)
+
+shr-sad : tie.Need-shr-sad
+shr-sad c = omega (arith, allowed (c .before .before) .1)
+
+cast-sad-2 : tie.Need-cast-sad-2
+cast-sad-2 c = let a = c .before .before .before .before .args in omega (arith, div-le-self (a .sum) (2 ^ (a .depth - 8)))
+
+returns-4 : tie.Need-returns-4
+returns-4 c = let a = c .before .before .before .before .args in rw (deep (c .before .before), marked (c .before), le-ltb 4294967295 (a .sum) (c .if3 .left))
+
+pub sad-answer-spec : {M : Type 1} → statement M
+sad-answer-spec =
+    tie.close (tie.spec wrong-depth-requires returns shr-if2 returns-2 returns-3 sub-sad cast-sad shr-sad cast-sad-2 returns-4)
