@@ -190,9 +190,9 @@ def lane(m, g):
 
 
 def terms(m):
-    """The places of a lane from size m, 2 or 4, on: as above, with no pick, and a term for each number."""
+    """The places of a lane from size m, 2 or 4, on: as above, with a term for each input."""
     each = m + 3
-    stored = lambda i: each * i + 2 + m
+    stored = lambda i: each * i + m + 2
     uses = [
         "use mathlib.Core.Path.{_∙_}",
         "use lib.Dec.{lit<, lit≤}",
@@ -204,7 +204,7 @@ def terms(m):
     needs = []
     for i in range(m):
         for r in range(m):
-            now = each * i + 1 + r
+            now = each * i + r
             k = m * i + r + 1
             s = f"c{back(now)}"
             so_far = read("c ." + called("term", k - 1)) if r else "half-none _ _ _ _"
@@ -212,7 +212,7 @@ def terms(m):
             needs.append((nth("term-requires", k), " κs", f"record {{ table = {s} .pre .0; narrow = {s} .pre .1 .level .narrow; inside = {inside}; so-far = {so_far} }}"))
         now = stored(i) - 1
         before = f"c{back(now - stored(i - 1))} .{called('put', i)} .ensures .lane" if i else f"c{back(now)} .pre .1"
-        needs.append((nth("put-requires", i + 1), " κs", f"record {{ lane = {before}; place = lit< tt; odd = {read('c .' + called('term', m * (i + 1)))} }}"))
+        needs.append((nth("put-requires", i + 1), " κs", f"record {{ lane = {before}; place = lit< tt; odd = {read('c .before .' + called('term', m * (i + 1)))} }}"))
     needs += ends(m, each * m, stored)
     return proof("base", f"lane{2 * m}", f"{m} places, one after the other.", uses, [], needs)
 

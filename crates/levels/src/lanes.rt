@@ -95,7 +95,15 @@ pub(crate) fn pick32(s: &[i16; 1024], j: usize) -> [i32; 32]
 }
 
 // One term more of the odd half at place n, its input read from the block.
-pub(crate) fn term(t: &[i8; 4096], s: &[i16; 1024], z: i32, q: usize, k: usize, n: usize, j: usize) -> i32
+pub(crate) fn term(
+    t: &[i8; 4096],
+    s: &[i16; 1024],
+    z: i32,
+    q: usize,
+    k: usize,
+    n: usize,
+    j: usize,
+) -> i32
     requires { ⌜ One (now t) (now s) z q k n j ⌝ }
     ensures { λ r. ⌜ r ≡ half (now (s .entry)) j q (k + 1) n ⌝ }
 {
@@ -104,7 +112,16 @@ pub(crate) fn term(t: &[i8; 4096], s: &[i16; 1024], z: i32, q: usize, k: usize, 
 }
 
 // The same, its input picked.
-fn one(t: &[i8; 4096], s: &[i16; 1024], x: &[i32], z: i32, q: usize, k: usize, n: usize, j: usize) -> i32
+fn one(
+    t: &[i8; 4096],
+    s: &[i16; 1024],
+    x: &[i32],
+    z: i32,
+    q: usize,
+    k: usize,
+    n: usize,
+    j: usize,
+) -> i32
     requires { ⌜ More (now t) (now s) (now x) z q k 1 n j ⌝ }
     ensures { λ r. ⌜ r ≡ half (now (s .entry)) j q (k + 1) n ⌝ }
 {
@@ -112,7 +129,16 @@ fn one(t: &[i8; 4096], s: &[i16; 1024], x: &[i32], z: i32, q: usize, k: usize, n
 }
 
 // Eight terms more, and sixteen: small enough to be inlined wherever they are called.
-pub(crate) fn dot8(t: &[i8; 4096], s: &[i16; 1024], x: &[i32], z: i32, q: usize, k: usize, n: usize, j: usize) -> i32
+pub(crate) fn dot8(
+    t: &[i8; 4096],
+    s: &[i16; 1024],
+    x: &[i32],
+    z: i32,
+    q: usize,
+    k: usize,
+    n: usize,
+    j: usize,
+) -> i32
     requires { ⌜ More (now t) (now s) (now x) z q k 8 n j ⌝ }
     ensures { λ r. ⌜ r ≡ half (now (s .entry)) j q (k + 8) n ⌝ }
 {
@@ -127,7 +153,16 @@ pub(crate) fn dot8(t: &[i8; 4096], s: &[i16; 1024], x: &[i32], z: i32, q: usize,
     z7
 }
 
-pub(crate) fn dot16(t: &[i8; 4096], s: &[i16; 1024], x: &[i32], z: i32, q: usize, k: usize, n: usize, j: usize) -> i32
+pub(crate) fn dot16(
+    t: &[i8; 4096],
+    s: &[i16; 1024],
+    x: &[i32],
+    z: i32,
+    q: usize,
+    k: usize,
+    n: usize,
+    j: usize,
+) -> i32
     requires { ⌜ More (now t) (now s) (now x) z q k 16 n j ⌝ }
     ensures { λ r. ⌜ r ≡ half (now (s .entry)) j q (k + 16) n ⌝ }
 {
