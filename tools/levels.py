@@ -10,39 +10,35 @@ from pathlib import Path
 
 CRATE = Path(__file__).resolve().parent.parent / "crates" / "levels"
 SIZES = (8, 16, 32)
-NAMES = "abcd"
 
 
 def code(m):
     q = 32 // m
-    parts = list(range(m // 8))
-    out = [f"// From size {m} to size {2 * m}, in all 16 lanes. Written by tools/levels.py."]
-    out += [
-        "ghost use mathlib.Core.Path.{_≡_};",
+    dot = "dot8" if m == 8 else "dot16"
+    out = [
+        f"// From size {m} to size {2 * m}, in all 16 lanes. Written by tools/levels.py.",
         "ghost use Prim.Native.Nat.{_≤_};",
         "ghost use lib.ListN.{length};",
-        "ghost use Rattle.table.specs.Flat.{flat};",
-        "ghost use Rattle.levels.specs.Steps.{OfLane, Moved, All, Sized};",
-        "use super::lanes::dot8;",
-        "use super::lanes::pick;",
+        "ghost use Rattle.levels.specs.Steps.{Given, Moved, All, Sized};",
+        f"use super::lanes::{dot};",
+        f"use super::lanes::pick{m};",
         "use super::lanes::put;",
         "",
     ]
-    for g in range(0, m, 8):
+    for g in range(0, m, 4):
         out += [
-            f"// Places {g} to {g + 7} of lane j and their mirrors.",
-            f"fn lane{m}_{g}(t: &[i8; 4096], s: &[i16; 1024], e: &mut [i32], j: usize)",
-            f"    requires {{ ⌜ (now t ≡ flat) × OfLane (now s) (now e) {m} {g} j ⌝ }}",
-            f"    ensures {{ λ _. ⌜ Moved (now (e .entry)) (now (s .entry)) (now (e .exit)) {m} {g + 8} j ⌝ }}",
+            f"// Places {g} to {g + 3} of lane j and their mirrors.",
+            f"fn lane{m}_{g}(t: &[i8; 4096], s: &[i16; 1024], x: &[i32], e: &mut [i32], j: usize)",
+            f"    requires {{ ⌜ Given (now t) (now s) (now x) (now e) {m} {g} j ⌝ }}",
+            f"    ensures {{ λ _. ⌜ Moved (now (e .entry)) (now (s .entry)) (now (e .exit)) {m} {g + 4} j ⌝ }}",
             "{",
         ]
-        out += [f"    let {NAMES[c]} = pick(s, {q}, {c}, j);" for c in parts]
-        for n in range(g, g + 8):
-            o = "0"
-            for c in parts:
-                o = f"dot8(t, s, &{NAMES[c]}, {o}, {q}, {c}, {n}, j)"
-            out += [f"    put(s, e, {m}, {n}, j, {o});"]
+        for n in range(g, g + 4):
+            for r, k in enumerate(firsts(m)):
+                out.append(f"    let z = {dot}(t, s, x, {'z' if r else '0'}, {q}, {k}, {n}, j);")
+            out.append(f"    put(s, e, {m}, {n}, j, z);")
         out += ["}", ""]
+    for g in range(0, m, 8):
         out += [
             f"fn rows{m}_{g}(s: &[i16; 1024], e: &mut [i32])",
             f"    requires {{ ⌜ All (now s) (now e) {m} {g} ⌝ }}",
@@ -50,13 +46,15 @@ def code(m):
             "{",
             "    let t = table::table();",
             "    for j in 0..16 {",
-            f"        lane{m}_{g}(&t, s, e, j);",
+            f"        let x = pick{m}(s, j);",
+            f"        lane{m}_{g}(&t, s, &x, e, j);",
+            f"        lane{m}_{g + 4}(&t, s, &x, e, j);",
             "    }",
             "}",
             "",
         ]
-    out += [f"pub(crate) fn level{m}(s: &[i16; 1024], e: &mut [i32])"]
     out += [
+        f"pub(crate) fn level{m}(s: &[i16; 1024], e: &mut [i32])",
         f"    requires {{ ⌜ Sized (now s) (now e) {m} × ({2 * m * 16} ≤ length (now e)) ⌝ }}",
         f"    ensures {{ λ _. ⌜ Sized (now (s .entry)) (now (e .exit)) {2 * m} ⌝ }}",
         "{",
@@ -64,6 +62,11 @@ def code(m):
     out += [f"    rows{m}_{g}(s, e);" for g in range(0, m, 8)]
     out += ["}", ""]
     return "\n".join(out)
+
+
+def firsts(m):
+    """The first term of each dot product of size m."""
+    return range(0, m, 8 if m == 8 else 16)
 
 
 def proof(module, name, does, uses, body, needs, loop=""):
@@ -88,108 +91,64 @@ def nth(name, k):
     return name if k == 1 else f"{name}-{k}"
 
 
-def start(last):
-    """The needs of `at` and `step`."""
-    room = f"omega (arith, octaves _ _ _ _ (c .pre), {last} _ _ _ _ (c .pre))"
-    return [(need, "", room) for need in ("mul-at", "add-at", "mul-at-2", "mul-at-3", "add-at-2", "mul-step")]
+def read(thing):
+    """What a call gave, read back from its bits."""
+    return f"back w32 _ ({thing} .ok) ∙ {thing} .ensures"
 
 
-def pick():
+def pick(m):
+    q = 32 // m
     uses = [
-        "use borrow.Author.Needs.{sfits-of}",
-        "use mathlib.Core.Path.{_≡_, sym, _∙_, subst}",
-        "use mathlib.Core.List.{List, [], _∷_}",
-        "use Prim.Native.Nat.{ℕ, _+_, _*_}",
+        "use mathlib.Core.Path.{refl, _∙_}",
+        "use lib.Dec.{lit<, lit≤}",
+        "use mir.Syntax.{w32}",
+        "use Rattle.integers.specs.Lists.{tab}",
+        "use Rattle.integers.proofs.Bits.{back}",
+        "use Rattle.integers.proofs.Written.{_∷≡_}",
+        "use Rattle.levels.proofs.Steps.{picks-of}",
+    ]
+    needs = []
+    for k in range(m):
+        needs.append((nth("input-requires", k + 1), " κs", f"record {{ some = lit< tt; rows = lit≤ tt; column = lit< tt; among = c{back(k)} .pre }}"))
+    things = " ∷≡ ".join(f"({read(f'c{back(m - 1 - k)} .' + called('input', k + 1))})" for k in range(m))
+    needs.append(("returns", "", f"picks-of _ {q} {m} _ ({things} ∷≡ refl)"))
+    text = proof("lanes", f"pick{m}", "its inputs, one after the other.", uses, [], needs)
+    return text.replace("returns : tie.Need-returns\n", "returns : tie.Need-returns\nunfolding tab\n")
+
+
+def dots(name, callee, step, count):
+    """A dot product out of `count` smaller ones of `step` terms."""
+    uses = [
+        "use mathlib.Core.Path.{refl, ap, _∙_}",
+        "use Prim.Native.Nat.{ℕ, _+_}",
         "use native.Mathlib.Omega.{arith}",
-        "use lib.ListN.{getD}",
-        "use lib.IntN.{ℤ, pos}",
-        "use mir.Syntax.{w16, w32}",
-        "use Rattle.integers.proofs.Expr.{Ex, var, loc, Known, arg, env, fit, reads-all}",
-        "use Rattle.levels.specs.Steps.{Picked}",
-        "use Rattle.levels.proofs.Steps.{octaves, last-input, eighth-input, eight-at}",
+        "use mir.Syntax.{w32}",
+        "use mir.Facts.{toZ-ofZ}",
+        "use Rattle.integers.proofs.Bits.{back}",
+        "use Rattle.levels.specs.Steps.{half}",
+        "use Rattle.levels.proofs.Steps.{part, few}",
     ]
-    body = [
-        "-- input i",
-        "abbrev input : tie.Start → ℕ → ℤ",
-        "input s i = getD (s .args .s .now) ((16 * s .args .c + 1) * s .args .q * 16 + s .args .j + i * (s .args .q * 32)) (pos 0)",
-        "",
-        "abbrev known : tie.After-x7 → ℕ → Known",
-        "known c =",
-        f"    let s = c{back(8)} in",
-        "    env (",
-    ]
-    for i in range(8):
-        body.append(f"    {'∷ ' if i else ''}arg w16 (input s {i}) (sfits-of (c{back(7 - i)} .x{i} .given))")
-    body += [
-        "    ∷ []",
-        "    )",
-        "",
-        "abbrev results : List Ex",
-        "results = " + " ∷ ".join(f"loc w32 (var {i})" for i in range(8)) + " ∷ []",
-        "",
-    ]
-    needs = start("last-input")
-    for i in range(8):
+    needs = []
+    for i in range(count):
         s = f"c{back(i)}"
-        room = f"omega (arith, last-input _ _ _ _ ({s} .pre))"
-        needs += [(need, "", room) for need in (f"mul-x{i}", f"add-x{i}", f"mul-x{i}-2", f"element-copy-out-x{i}")]
-        needs.append((f"cast-x{i}", "", f"fit (env (arg w16 (input (c{back(1)}{back(i)}) {i}) (sfits-of (c .x{i} .given)) ∷ [])) w32 (var 0) tt"))
+        k = f"{s} .args .k"
+        if i:
+            needs.append((nth(f"add-{callee}", i), "", f"omega (arith, few _ {step * count} ({s} .pre))"))
+        so_far = f"({k}{f' + {step * (i - 1)}' if i > 1 else ''} + {step})" if i else f"({k})"
+        here = f"({k}{f' + {step * i}' if i else ''})"
+        fact = f"({read('c .' + called(callee, i))})" if i else f"(toZ-ofZ ({s} .fits .z) ∙ {s} .pre .so-far)"
+        needs.append((nth(f"{callee}-requires", i + 1), " κs", f"part _ {step * count} ({s} .pre) {so_far} {here} {step} (omega arith) (omega arith) {'(omega arith)' if i else 'refl'} {fact}"))
+    s = f"c{back(count)}"
+    last = f"{s} .args .k + {step * (count - 1)} + {step}"
+    total = f"{s} .args .k + {step * count}"
     needs.append(
         (
             "returns",
             "",
-            f"let s = c{back(8)} in subst (λ (l : List ℤ). Picked l (s .args .s .now) (s .args .q) (s .args .c) (s .args .j)) (sym (reads-all (known c) results tt)) (record {{ at = λ i h. eight-at (input s) i h ∙ eighth-input _ _ _ _ (s .pre) i h (s .args .s .now) }})",
+            f"let s = {s} in let e : {last.replace(s, 's')} ≡ {total.replace(s, 's')} = omega arith in {read('c .' + called(callee, count))} ∙ ap (λ (i : ℕ). half (s .args .s .now) (s .args .j) (s .args .q) i (s .args .n)) e",
         )
     )
-    return proof("lanes", "pick", "eight inputs, read one after the other.", uses, body, needs)
-
-
-def dot8():
-    uses = [
-        "use mathlib.Core.Path.{_≡_, _∙_}",
-        "use mathlib.Core.List.{[], _∷_}",
-        "use Prim.Native.Nat.{ℕ, _+_, _*_}",
-        "use native.Mathlib.Omega.{arith}",
-        "use lib.Dec.{T, ltb, lit<}",
-        "use lib.ListN.{getD}",
-        "use lib.IntN.{pos}",
-        "use mir.Syntax.{w8, w32}",
-        "use Rattle.integers.proofs.Expr.{Ex, var, add, mul, loc, bare, Known, small, env, fit, reads}",
-        "use Rattle.levels.proofs.Steps.{octaves, last-number, so-far-small, number-small, picked-small, eight-more}",
-    ]
-    body = [
-        "-- number i of the table and input i",
-        "module _ (s : tie.Start) (i : ℕ) (h : T (ltb i 8)) where",
-        "  abbrev number : Known",
-        "  number =",
-        "      small w8 (getD (s .args .t .now) ((16 * s .args .c + 1) * s .args .q * 64 + s .args .n + i * (s .args .q * 128)) (pos 0)) 90 (number-small (s .pre) i h)",
-        "      tt",
-        "",
-        "  abbrev input : Known",
-        "  input = small w32 (getD (s .args .x .now) i (pos 0)) 32768 (picked-small (s .pre) i h) tt",
-        "",
-        "abbrev known : tie.Start → ℕ → Known",
-        "known s =",
-        "    env (",
-        "    small w32 (s .args .z) 94371840 (so-far-small (s .pre)) tt",
-    ]
-    body += [f"    ∷ number s {i} tt ∷ input s {i} tt" for i in range(8)]
-    body += ["    ∷ []", "    )", "", "-- the product of both, and the sum with so many of them", "abbrev product : ℕ → Ex", "product i = loc w32 (mul (loc w32 (var (i + i + 1))) (var (i + i + 2)))", ""]
-    body += ["abbrev sum0 : Ex", "sum0 = var 0", ""]
-    for i in range(8):
-        body += [f"abbrev sum{i + 1} : Ex", f"sum{i + 1} = loc w32 (add sum{i} (product {i}))", ""]
-    needs = start("last-number")
-    needs = [(a, b, c.replace("(c .pre)", "(c .pre .inside)")) for a, b, c in needs]
-    for i in range(8):
-        s = f"c{back(2 * i)}"
-        room = f"omega (arith, last-number _ _ _ _ ({s} .pre .inside))"
-        needs += [(nth(need, 2 * i + 1), "", room) for need in ("mul-result", "add-result", "element-copy-out-result")]
-        needs.append((nth("cast-result", i + 1), "", f"fit (known (c{back(2 * i + 1)})) w32 (var {2 * i + 1}) tt"))
-        needs.append((nth("element-copy-out-result", 2 * i + 2), "", "lit< tt"))
-        needs.append((nth("mul-result", 2 * i + 2), "", f"fit (known (c{back(2 * i + 2)})) w32 (bare (product {i})) tt"))
-        needs.append((nth("add-result", 2 * i + 2), "", f"fit (known (c{back(2 * i + 2)})) w32 (bare sum{i + 1}) tt"))
-    needs.append(("returns", "", f"let s = c{back(16)} in reads (known s) sum8 tt ∙ eight-more (s .pre)"))
-    return proof("lanes", "dot8", "eight products, added one after the other.", uses, body, needs)
+    return proof("lanes", name, f"{count} smaller ones, one after the other.", [uses[0].replace("{refl", "{_≡_, refl"), *uses[1:]], [], needs)
 
 
 def called(name, k):
@@ -198,45 +157,42 @@ def called(name, k):
 
 
 def lane(m, g):
-    """Eight places of a lane. The things that the code binds are counted from the start: the picks; then, of each place, the loan of e, the
-    loans of the picked inputs, the dot products, the store and the loan's end."""
-    q, parts = 32 // m, m // 8
-    each = 2 * parts + 3
-    name = f"lane{m}_{g}"
+    """Four places of a lane. The things that the code binds are counted from the start: of each place the dot products, the loan of e, the
+    store and the loan's end."""
+    q, dot = 32 // m, "dot8" if m == 8 else "dot16"
+    step = firsts(m).step
+    parts = len(firsts(m))
+    each = parts + 3
     uses = [
         "use mathlib.Core.Path.{_∙_}",
+        "use native.Mathlib.Omega.{arith}",
         "use lib.Dec.{lit<, lit≤}",
         "use mir.Syntax.{w32}",
         "use Rattle.integers.proofs.Bits.{back}",
         "use Rattle.levels.proofs.AsLine.{kept-then}",
         "use Rattle.levels.proofs.Steps.{half-none}",
     ]
-    inside = lambda s, column: f"record {{ some = lit< tt; rows = lit≤ tt; column = {column}; among = {s} .pre .1 .among }}"
-    stored = lambda i: parts + each * i + 2 + 2 * parts
-    read = lambda thing: f"back w32 _ (c .{thing} .ok) ∙ c .{thing} .ensures"
+    stored = lambda i: each * i + parts + 2
     needs = []
-    for c in range(parts):
-        needs.append((nth("pick-requires", c + 1), " κs", inside(f"c{back(c)}", "lit< tt")))
-    for i in range(8):
+    for i in range(4):
         for r in range(parts):
-            now = parts + each * i + 1 + parts + r
+            s = f"c{back(each * i + r)}"
             k = parts * i + r + 1
-            s = f"c{back(now)}"
-            so_far = read(called("dot8", k - 1)) if r else "half-none _ _ _ _"
-            answer = f"record {{ table = {s} .pre .0; narrow = {s} .pre .1 .level .narrow; inside = {inside(s, 'lit< tt')}; picked = c{back(now - r - 1)} .{called('pick', r + 1)} .ensures; so-far = {so_far} }}"
-            needs.append((nth("dot8-requires", k), " κs", answer))
+            so_far = read("c ." + called(dot, k - 1)) if r else "half-none _ _ _ _"
+            inside = f"record {{ some = lit< tt; rows = lit≤ tt; column = lit< tt; among = {s} .pre .lane .among }}"
+            answer = f"record {{ table = {s} .pre .table; narrow = {s} .pre .lane .level .narrow; inside = {inside}; room = omega (arith, {s} .pre .picks .long); picked = {s} .pre .picks .picked; so-far = {so_far} }}"
+            needs.append((nth(f"{dot}-requires", k), " κs", answer))
         now = stored(i) - 1
-        before = f"c{back(now - stored(i - 1))} .{called('put', i)} .ensures .lane" if i else f"c{back(now)} .pre .1"
-        needs.append((nth("put-requires", i + 1), " κs", f"record {{ lane = {before}; place = lit< tt; odd = {read(called('dot8', parts * (i + 1)))} }}"))
-    needs += ends(8, parts + each * 8, stored)
-    return proof(f"level{m}", name, f"places {g} to {g + 7}, one after the other.", uses, [], needs)
+        before = f"c{back(now - stored(i - 1))} .{called('put', i)} .ensures .lane" if i else f"c{back(now)} .pre .lane"
+        needs.append((nth("put-requires", i + 1), " κs", f"record {{ lane = {before}; place = lit< tt; odd = {read('c .before .' + called(dot, parts * (i + 1)))} }}"))
+    needs += ends(4, each * 4, stored)
+    return proof(f"level{m}", f"lane{m}_{g}", f"places {g} to {g + 3}, one after the other.", uses, [], needs)
 
 
 def terms(m):
-    """The places of a lane from size m, 2 or 4, on: as above, with no pick, and a term for each number."""
+    """The places of a lane from size m, 2 or 4, on: as above, with a term for each input."""
     each = m + 3
-    stored = lambda i: each * i + 2 + m
-    read = lambda thing: f"back w32 _ (c .{thing} .ok) ∙ c .{thing} .ensures"
+    stored = lambda i: each * i + m + 2
     uses = [
         "use mathlib.Core.Path.{_∙_}",
         "use lib.Dec.{lit<, lit≤}",
@@ -248,15 +204,15 @@ def terms(m):
     needs = []
     for i in range(m):
         for r in range(m):
-            now = each * i + 1 + r
+            now = each * i + r
             k = m * i + r + 1
             s = f"c{back(now)}"
-            so_far = read(called("term", k - 1)) if r else "half-none _ _ _ _"
+            so_far = read("c ." + called("term", k - 1)) if r else "half-none _ _ _ _"
             inside = f"record {{ some = lit< tt; rows = lit≤ tt; column = lit< tt; among = {s} .pre .1 .among }}"
             needs.append((nth("term-requires", k), " κs", f"record {{ table = {s} .pre .0; narrow = {s} .pre .1 .level .narrow; inside = {inside}; so-far = {so_far} }}"))
         now = stored(i) - 1
         before = f"c{back(now - stored(i - 1))} .{called('put', i)} .ensures .lane" if i else f"c{back(now)} .pre .1"
-        needs.append((nth("put-requires", i + 1), " κs", f"record {{ lane = {before}; place = lit< tt; odd = {read(called('term', m * (i + 1)))} }}"))
+        needs.append((nth("put-requires", i + 1), " κs", f"record {{ lane = {before}; place = lit< tt; odd = {read('c .before .' + called('term', m * (i + 1)))} }}"))
     needs += ends(m, each * m, stored)
     return proof("base", f"lane{2 * m}", f"{m} places, one after the other.", uses, [], needs)
 
@@ -271,11 +227,14 @@ def ends(places, end, stored):
 
 
 def rows(m, g):
-    """The loop over the lanes. It binds the table, the loop, its test, the loans of table and e, the call, and the loan's end."""
-    name, call = f"rows{m}_{g}", f"lane{m}-{g}"
+    """The loop over the lanes. It binds the table, the loop, its test, the picked inputs; then, of each call, the loans of table, inputs and e,
+    the call, and the loan's end."""
+    one, two, pick = f"lane{m}-{g}", f"lane{m}-{g + 4}", f"pick{m}"
     uses = [
+        "use mathlib.Core.Path.{sym}",
         "use Prim.Native.Nat.{_-_}",
         "use native.Mathlib.Omega.{arith}",
+        "use Rattle.levels.proofs.AsLine.{kept-then}",
         "use Rattle.levels.proofs.Passes.{Places, Passed, passed-none, passed-more, next-lane, passed-all}",
     ]
     body = [
@@ -286,17 +245,26 @@ def rows(m, g):
         "μ-loop s e₀ t j₀ e j = 16 - j",
         "",
     ]
+    first = f"next-lane (c{back(7)} .pre .level) (c{back(5)} .loop .inv) (c{back(4)} .loop-test .taken)"
     needs = [
         ("table-requires", " κs", "tt"),
         ("loop-holds", "", "passed-none (c .before .pre .part)"),
-        (f"{call}-requires", " κs", f"(c{back(4)} .table .ensures, next-lane (c{back(5)} .pre .level) (c{back(3)} .loop .inv) (c{back(2)} .loop-test .taken))"),
+        (f"{pick}-requires", " κs", "c .loop-test .taken"),
+        (f"slice-aggregate-{one}", "", f"sym (c{back(2)} .{pick} .ensures .long)"),
+        (f"{one}-requires", " κs", f"record {{ table = c{back(6)} .table .ensures; lane = {first}; picks = c{back(3)} .{pick} .ensures }}"),
+        (f"slice-aggregate-{two}", "", f"sym (c{back(7)} .{pick} .ensures .long)"),
+        (f"{two}-requires", " κs", f"record {{ table = c{back(11)} .table .ensures; lane = c{back(4)} .{one} .ensures .lane; picks = c{back(8)} .{pick} .ensures }}"),
         ("add-j", "", "omega arith"),
         ("loop-less", "", "omega arith"),
-        ("loop-again", "", f"passed-more (c{back(5)} .loop .inv) (c{back(4)} .loop-test .taken) (c .before .{call} .ensures .kept) (c .before .{call} .ensures .lane .part)"),
+        (
+            "loop-again",
+            "",
+            f"passed-more (c{back(12)} .loop .inv) (c{back(11)} .loop-test .taken) (kept-then (c{back(6)} .{one} .ensures .kept) (c .before .{two} .ensures .kept)) (c .before .{two} .ensures .lane .part)",
+        ),
         ("same-length", "", "c .before .loop .inv .long"),
         ("returns", "", f"passed-all (c{back(3)} .pre .level) (c .before .loop .inv) (c .loop-test .left)"),
     ]
-    return proof(f"level{m}", name, "lane after lane.", uses, body, needs, " Inv-loop μ-loop")
+    return proof(f"level{m}", f"rows{m}_{g}", "lane after lane.", uses, body, needs, " Inv-loop μ-loop")
 
 
 def level(m):
@@ -325,16 +293,20 @@ def level(m):
 
 
 def files():
+    proofs = CRATE / "proofs"
     for m in (2, 4):
-        yield CRATE / "proofs" / "base" / f"lane{2 * m}" / "Proof.antt", terms(m)
-    yield CRATE / "proofs" / "lanes" / "pick" / "Proof.antt", pick()
-    yield CRATE / "proofs" / "lanes" / "dot8" / "Proof.antt", dot8()
+        yield proofs / "base" / f"lane{2 * m}" / "Proof.antt", terms(m)
+    for m in SIZES:
+        yield proofs / "lanes" / f"pick{m}" / "Proof.antt", pick(m)
+    yield proofs / "lanes" / "dot8" / "Proof.antt", dots("dot8", "one", 1, 8)
+    yield proofs / "lanes" / "dot16" / "Proof.antt", dots("dot16", "dot8", 8, 2)
     for m in SIZES:
         yield CRATE / "src" / f"level{m}.rt", code(m)
+        for g in range(0, m, 4):
+            yield proofs / f"level{m}" / f"lane{m}_{g}" / "Proof.antt", lane(m, g)
         for g in range(0, m, 8):
-            yield CRATE / "proofs" / f"level{m}" / f"lane{m}_{g}" / "Proof.antt", lane(m, g)
-            yield CRATE / "proofs" / f"level{m}" / f"rows{m}_{g}" / "Proof.antt", rows(m, g)
-        yield CRATE / "proofs" / f"level{m}" / f"level{m}" / "Proof.antt", level(m)
+            yield proofs / f"level{m}" / f"rows{m}_{g}" / "Proof.antt", rows(m, g)
+        yield proofs / f"level{m}" / f"level{m}" / "Proof.antt", level(m)
 
 
 def main():

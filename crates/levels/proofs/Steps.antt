@@ -1,22 +1,23 @@
 -- What the helpers' steps give: terms added one by one, a place and its mirror written, a level begun and ended. Assumes nothing.
 use mathlib.Core.Path.{_≡_, refl, sym, ap, ap₂, _∙_, subst}
-use mathlib.Core.List.{List, [], _∷_}
+use mathlib.Core.List.{List}
 use Prim.Native.Nat.{ℕ, zero, suc, _+_, _*_, _-_, _/_, _<_, _≤_}
 use native.Mathlib.Omega.{arith}
-use native.Mathlib.Nat.{add-zero, zero-add, mul-le-mul-right, le-trans}
-use lib.Dec.{T as T′, ltb, ltb→lt}
+use native.Mathlib.Nat.{zero-add, mul-le-mul-right, le-trans}
 use lib.ListN.{length, getD, set, length-set}
 use lib.Seq.{getD-set-same, getD-set-other}
 use lib.IntN.{ℤ, pos, _+ℤ_, _-ℤ_, _*ℤ_}
 use Rattle.integers.specs.Sum.{ofZ+}
 use Rattle.integers.proofs.Bound.{Within, within-mono}
+use Rattle.integers.specs.Lists.{tab}
 use Rattle.integers.proofs.Sum.{sum-none}
+use Rattle.integers.proofs.Written.{tab-length, tab-at}
 use Rattle.table.specs.Flat.{flat}
 use Rattle.itx.specs.Line.{line, rows, dot, odd, Inputs, Table, Level, Sums, Part}
 use Rattle.itx.proofs.Bounds.{odd-step, odd-multiple}
 use Rattle.itx.proofs.Step.{none, more, two}
 use Rattle.itx.proofs.Instance.{own-table}
-use Rattle.levels.specs.Steps.{laneList, T, half, Narrow, Within64, Picked, Eight, Lane, Halving, OfLane, Ready, Kept, Moved, All, Sized}
+use Rattle.levels.specs.Steps.{laneList, T, half, Narrow, Within64, Picked, Picks, More, Lane, Halving, OfLane, Ready, Kept, Moved, All, Sized}
 use Rattle.levels.proofs.AsLine.{lane-length, lane-at, lane-set, kept-set, kept-then}
 use Rattle.levels.proofs.Bounds.{term, entry-within, input-within, dot-within, half-within, most, stride}
 
@@ -126,81 +127,50 @@ pub half-none : (s : List ℤ) (j q n : ℕ) → pos 0 ≡ half s j q 0 n
 unfolding odd
 half-none s j q n = sym (sum-none ofZ+ _)
 
--- ---- eight of them
-module _ (q c n j : ℕ) (h : Within64 q (8 * c + 8) n j) where
-  pub octaves : c ≤ 3
-  octaves = omega (arith, most q (8 * c + 8) (h .some) (h .rows))
+-- ---- terms of picked inputs
+module _ {t s x : List ℤ} {z : ℤ} {q n j : ℕ} (k m : ℕ) (r : More t s x z q k m n j) where
+  -- a part of them, from term i on
+  pub part : {y : ℤ} (h i c : ℕ) → k ≤ i → i + c ≤ k + m → h ≡ i → y ≡ half s j q h n → More t s x y q i c n j
+  part h i c l p e ey =
+      record {
+        table = r .table;
+        narrow = r .narrow;
+        inside =
+            record {
+              some = r .inside .some;
+              rows = le-trans (mul-le-mul-right {m = i + c + (i + c)} {n = k + m + (k + m)} q (omega arith)) (r .inside .rows);
+              column = r .inside .column;
+              among = r .inside .among;
+            };
+        room = le-trans p (r .room);
+        picked = r .picked;
+        so-far = ey ∙ ap (λ (a : ℕ). half s j q a n) e;
+      }
 
-  -- the last places that are read
-  pub last-input : (16 * c + 1) * q * 16 + j + 7 * (q * 32) < 1024
-  last-input = omega (arith, h .rows, h .some, h .among)
+  pub few : k + m ≤ 32
+  few = most q (k + m) (r .inside .some) (r .inside .rows)
 
-  pub last-number : (16 * c + 1) * q * 64 + n + 7 * (q * 128) < 4096
-  last-number = omega (arith, h .rows, h .some, h .column)
+-- the one term at k
+module _ {t s x : List ℤ} {z : ℤ} {q k n j : ℕ} (r : More t s x z q k 1 n j) where
+  pub picked-small : Within 32768 (getD x k (pos 0))
+  picked-small =
+      subst (Within 32768) (sym (r .picked .at k (omega (arith, r .room))))
+      (input-within (r .narrow) (r .inside .among) (suc (k + k) * q) (omega (arith, r .inside .rows, r .inside .some)))
 
-  module _ (i : ℕ) (hi : i < 8) where
-    abbrev d : ℕ
-    d = suc (8 * c + i + (8 * c + i)) * q
+  pub one-picked : z +ℤ getD t ((2 * k + 1) * q * 64 + n) (pos 0) *ℤ getD x k (pos 0) ≡ half s j q (k + 1) n
+  one-picked =
+      let e : suc (k + k) ≡ 2 * k + 1 = omega arith in
+      ap₂ _+ℤ_ (r .so-far)
+      (ap₂ _*ℤ_ (ap (λ (l : List ℤ). getD l ((2 * k + 1) * q * 64 + n) (pos 0)) (r .table))
+      (r .picked .at k (omega (arith, r .room)) ∙ ap (λ (i : ℕ). line (laneList s j) (i * q)) e))
+      ∙ odd-step T q k n (line (laneList s j))
 
-    pub eighth-row : d < 64
-    eighth-row = omega (arith, h .rows, h .some, mul-le-mul-right {m = i} {n = 7} q (omega arith))
-
-    pub eighth-input : (s : List ℤ) → getD s ((16 * c + 1) * q * 16 + j + i * (q * 32)) (pos 0) ≡ line (laneList s j) d
-    eighth-input s =
-        let e : (16 * c + 1) * q * 16 + j + i * (q * 32) ≡ d * 16 + j = omega arith in
-        ap (λ (k : ℕ). getD s k (pos 0)) e ∙ sym (lane-at s j d eighth-row)
-
-    pub eighth-number : {t : List ℤ} → t ≡ flat → getD t ((16 * c + 1) * q * 64 + n + i * (q * 128)) (pos 0) ≡ T d n
-    eighth-number et =
-        let e : (16 * c + 1) * q * 64 + n + i * (q * 128) ≡ d * 64 + n = omega arith in
-        ap₂ (λ (l : List ℤ) (k : ℕ). getD l k (pos 0)) et e
-
--- a list of eight, entry by entry
-pub eight-at : (f : ℕ → ℤ) (i : ℕ) → i < 8 → getD (f 0 ∷ f 1 ∷ f 2 ∷ f 3 ∷ f 4 ∷ f 5 ∷ f 6 ∷ f 7 ∷ []) i (pos 0) ≡ f i
-eight-at f zero h = refl
-eight-at f (suc zero) h = refl
-eight-at f (suc (suc zero)) h = refl
-eight-at f (suc (suc (suc zero))) h = refl
-eight-at f (suc (suc (suc (suc zero)))) h = refl
-eight-at f (suc (suc (suc (suc (suc zero))))) h = refl
-eight-at f (suc (suc (suc (suc (suc (suc zero)))))) h = refl
-eight-at f (suc (suc (suc (suc (suc (suc (suc zero))))))) h = refl
-eight-at f (suc (suc (suc (suc (suc (suc (suc (suc i)))))))) h = let z : ⊥ = omega arith in absurd z
-
--- z and the first k products of table and picked inputs
-abbrev pub run : (ℕ → ℤ) → ℤ → ℕ → ℤ
-run f z zero = z
-run f z (suc k) = run f z k +ℤ f k
-
-module _ {t s x : List ℤ} {z : ℤ} {q c n j : ℕ} (r : Eight t s x z q c n j) where
-  pub so-far-small : Within 94371840 z
-  so-far-small =
-      subst (Within 94371840) (sym (r .so-far))
-      (within-mono (omega (arith, octaves q c n j (r .inside)))
-      (half-within (r .narrow) (r .inside .among) q (8 * c) n (r .inside .some) (omega (arith, r .inside .rows)) (r .inside .column)))
-
-  pub number-small : (i : ℕ) → T′ (ltb i 8) → Within 90 (getD t ((16 * c + 1) * q * 64 + n + i * (q * 128)) (pos 0))
-  number-small i h =
-      subst (Within 90) (sym (eighth-number q c n j (r .inside) i (ltb→lt i 8 h) (r .table)))
-      (entry-within _ n (eighth-row q c n j (r .inside) i (ltb→lt i 8 h)) (r .inside .column))
-
-  pub picked-small : (i : ℕ) → T′ (ltb i 8) → Within 32768 (getD x i (pos 0))
-  picked-small i h =
-      subst (Within 32768) (sym (r .picked .at i (ltb→lt i 8 h))) (input-within (r .narrow) (r .inside .among) _ (eighth-row q c n j (r .inside) i (ltb→lt i 8 h)))
-
-  abbrev product : ℕ → ℤ
-  product i = getD t ((16 * c + 1) * q * 64 + n + i * (q * 128)) (pos 0) *ℤ getD x i (pos 0)
-
-  run-is : (k : ℕ) → k ≤ 8 → run product z k ≡ half s j q (8 * c + k) n
-  run-is zero h = r .so-far ∙ ap (λ (i : ℕ). half s j q i n) (sym (add-zero (8 * c)))
-  run-is (suc k) h =
-      let e : suc (8 * c + k + (8 * c + k)) ≡ 2 * (8 * c + k) + 1 = omega arith in
-      let l : 8 * c + k + 1 ≡ 8 * c + suc k = omega arith in
-      ap₂ _+ℤ_ (run-is k (omega arith)) (ap₂ _*ℤ_ (eighth-number q c n j (r .inside) k (omega arith) (r .table)) (r .picked .at k (omega arith)) ∙ ap (λ (i : ℕ). T (i * q) n *ℤ line (laneList s j) (i * q)) e)
-      ∙ odd-step T q (8 * c + k) n (line (laneList s j)) ∙ ap (λ (i : ℕ). half s j q i n) l
-
-  pub eight-more : run product z 8 ≡ half s j q (8 * c + 8) n
-  eight-more = run-is 8 (omega arith)
+-- the inputs that `pick` reads
+pub picks-of : (s : List ℤ) (q m j : ℕ) {x : List ℤ} → x ≡ tab m (λ k. line (laneList s j) (suc (k + k) * q)) → Picks x s q m j
+picks-of s q m j {x} e = record {
+  long = ap length e ∙ tab-length m _;
+  picked = record { at = λ k h. ap (λ (l : List ℤ). getD l k (pos 0)) e ∙ tab-at m _ k (pos 0) (omega (arith, ap length e ∙ tab-length m (λ k. line (laneList s j) (suc (k + k) * q)))) };
+}
 
 -- ---- where the halving starts: the product of size 2
 pub two-terms : (t s : List ℤ) (n j : ℕ) → t ≡ flat → getD t n (pos 0) *ℤ getD s j (pos 0) +ℤ getD t (2048 + n) (pos 0) *ℤ getD s (512 + j) (pos 0) ≡ dot T 32 2 n (line (laneList s j))

@@ -34,23 +34,30 @@ pub record Within64 (q k n j : ℕ) : Type 0 where
   pub column : n < 64
   pub among : j < 16
 
--- x holds eight inputs of lane j: those in the rows at the odd multiples 8c to 8c+7 of q
-pub record Picked (x s : List ℤ) (q c j : ℕ) : Type 0 where
-  pub at : (i : ℕ) → i < 8 → getD x i (pos 0) ≡ line (laneList s j) (suc (8 * c + i + (8 * c + i)) * q)
+-- x holds inputs of lane j: those in the rows at the first odd multiples of q, as many as x has places
+pub record Picked (x s : List ℤ) (q j : ℕ) : Type 0 where
+  pub at : (k : ℕ) → k < length x → getD x k (pos 0) ≡ line (laneList s j) (suc (k + k) * q)
 
--- k terms of the odd half are added, and one more, or the eight of x, can be
+-- m of them
+pub record Picks (x s : List ℤ) (q m j : ℕ) : Type 0 where
+  pub long : length x ≡ m
+  pub picked : Picked x s q j
+
+-- k terms of the odd half are added, and one more can be
 pub record One (t s : List ℤ) (z : ℤ) (q k n j : ℕ) : Type 0 where
   pub table : t ≡ flat
   pub narrow : Narrow s
   pub inside : Within64 q (k + 1) n j
   pub so-far : z ≡ half s j q k n
 
-pub record Eight (t s x : List ℤ) (z : ℤ) (q c n j : ℕ) : Type 0 where
+-- the same, and m more, from the picked inputs
+pub record More (t s x : List ℤ) (z : ℤ) (q k m n j : ℕ) : Type 0 where
   pub table : t ≡ flat
   pub narrow : Narrow s
-  pub inside : Within64 q (8 * c + 8) n j
-  pub picked : Picked x s q c j
-  pub so-far : z ≡ half s j q (8 * c) n
+  pub inside : Within64 q (k + m) n j
+  pub room : k + m ≤ length x
+  pub picked : Picked x s q j
+  pub so-far : z ≡ half s j q k n
 
 -- lane j of e on its way from size m to size 2m: n places and their mirrors are done
 abbrev pub Lane : List ℤ → List ℤ → ℕ → ℕ → ℕ → Type 0
@@ -68,6 +75,12 @@ pub record OfLane (s e : List ℤ) (m n j : ℕ) : Type 0 where
   pub level : Halving s e m
   pub among : j < 16
   pub part : Lane s e m n j
+
+-- the same with its odd inputs picked
+pub record Given (t s x e : List ℤ) (m n j : ℕ) : Type 0 where
+  pub table : t ≡ flat
+  pub lane : OfLane s e m n j
+  pub picks : Picks x s (32 / m) m j
 
 -- z is the odd half at place n
 pub record Ready (s e : List ℤ) (m n j : ℕ) (z : ℤ) : Type 0 where

@@ -1,30 +1,161 @@
 // From size 32 to size 64, in all 16 lanes. Written by tools/levels.py.
-ghost use mathlib.Core.Path.{_≡_};
 ghost use Prim.Native.Nat.{_≤_};
 ghost use lib.ListN.{length};
-ghost use Rattle.table.specs.Flat.{flat};
-ghost use Rattle.levels.specs.Steps.{OfLane, Moved, All, Sized};
-use super::lanes::dot8;
-use super::lanes::pick;
+ghost use Rattle.levels.specs.Steps.{Given, Moved, All, Sized};
+use super::lanes::dot16;
+use super::lanes::pick32;
 use super::lanes::put;
 
-// Places 0 to 7 of lane j and their mirrors.
-fn lane32_0(t: &[i8; 4096], s: &[i16; 1024], e: &mut [i32], j: usize)
-    requires { ⌜ (now t ≡ flat) × OfLane (now s) (now e) 32 0 j ⌝ }
+// Places 0 to 3 of lane j and their mirrors.
+fn lane32_0(t: &[i8; 4096], s: &[i16; 1024], x: &[i32], e: &mut [i32], j: usize)
+    requires { ⌜ Given (now t) (now s) (now x) (now e) 32 0 j ⌝ }
+    ensures { λ _. ⌜ Moved (now (e .entry)) (now (s .entry)) (now (e .exit)) 32 4 j ⌝ }
+{
+    let z = dot16(t, s, x, 0, 1, 0, 0, j);
+    let z = dot16(t, s, x, z, 1, 16, 0, j);
+    put(s, e, 32, 0, j, z);
+    let z = dot16(t, s, x, 0, 1, 0, 1, j);
+    let z = dot16(t, s, x, z, 1, 16, 1, j);
+    put(s, e, 32, 1, j, z);
+    let z = dot16(t, s, x, 0, 1, 0, 2, j);
+    let z = dot16(t, s, x, z, 1, 16, 2, j);
+    put(s, e, 32, 2, j, z);
+    let z = dot16(t, s, x, 0, 1, 0, 3, j);
+    let z = dot16(t, s, x, z, 1, 16, 3, j);
+    put(s, e, 32, 3, j, z);
+}
+
+// Places 4 to 7 of lane j and their mirrors.
+fn lane32_4(t: &[i8; 4096], s: &[i16; 1024], x: &[i32], e: &mut [i32], j: usize)
+    requires { ⌜ Given (now t) (now s) (now x) (now e) 32 4 j ⌝ }
     ensures { λ _. ⌜ Moved (now (e .entry)) (now (s .entry)) (now (e .exit)) 32 8 j ⌝ }
 {
-    let a = pick(s, 1, 0, j);
-    let b = pick(s, 1, 1, j);
-    let c = pick(s, 1, 2, j);
-    let d = pick(s, 1, 3, j);
-    put(s, e, 32, 0, j, dot8(t, s, &d, dot8(t, s, &c, dot8(t, s, &b, dot8(t, s, &a, 0, 1, 0, 0, j), 1, 1, 0, j), 1, 2, 0, j), 1, 3, 0, j));
-    put(s, e, 32, 1, j, dot8(t, s, &d, dot8(t, s, &c, dot8(t, s, &b, dot8(t, s, &a, 0, 1, 0, 1, j), 1, 1, 1, j), 1, 2, 1, j), 1, 3, 1, j));
-    put(s, e, 32, 2, j, dot8(t, s, &d, dot8(t, s, &c, dot8(t, s, &b, dot8(t, s, &a, 0, 1, 0, 2, j), 1, 1, 2, j), 1, 2, 2, j), 1, 3, 2, j));
-    put(s, e, 32, 3, j, dot8(t, s, &d, dot8(t, s, &c, dot8(t, s, &b, dot8(t, s, &a, 0, 1, 0, 3, j), 1, 1, 3, j), 1, 2, 3, j), 1, 3, 3, j));
-    put(s, e, 32, 4, j, dot8(t, s, &d, dot8(t, s, &c, dot8(t, s, &b, dot8(t, s, &a, 0, 1, 0, 4, j), 1, 1, 4, j), 1, 2, 4, j), 1, 3, 4, j));
-    put(s, e, 32, 5, j, dot8(t, s, &d, dot8(t, s, &c, dot8(t, s, &b, dot8(t, s, &a, 0, 1, 0, 5, j), 1, 1, 5, j), 1, 2, 5, j), 1, 3, 5, j));
-    put(s, e, 32, 6, j, dot8(t, s, &d, dot8(t, s, &c, dot8(t, s, &b, dot8(t, s, &a, 0, 1, 0, 6, j), 1, 1, 6, j), 1, 2, 6, j), 1, 3, 6, j));
-    put(s, e, 32, 7, j, dot8(t, s, &d, dot8(t, s, &c, dot8(t, s, &b, dot8(t, s, &a, 0, 1, 0, 7, j), 1, 1, 7, j), 1, 2, 7, j), 1, 3, 7, j));
+    let z = dot16(t, s, x, 0, 1, 0, 4, j);
+    let z = dot16(t, s, x, z, 1, 16, 4, j);
+    put(s, e, 32, 4, j, z);
+    let z = dot16(t, s, x, 0, 1, 0, 5, j);
+    let z = dot16(t, s, x, z, 1, 16, 5, j);
+    put(s, e, 32, 5, j, z);
+    let z = dot16(t, s, x, 0, 1, 0, 6, j);
+    let z = dot16(t, s, x, z, 1, 16, 6, j);
+    put(s, e, 32, 6, j, z);
+    let z = dot16(t, s, x, 0, 1, 0, 7, j);
+    let z = dot16(t, s, x, z, 1, 16, 7, j);
+    put(s, e, 32, 7, j, z);
+}
+
+// Places 8 to 11 of lane j and their mirrors.
+fn lane32_8(t: &[i8; 4096], s: &[i16; 1024], x: &[i32], e: &mut [i32], j: usize)
+    requires { ⌜ Given (now t) (now s) (now x) (now e) 32 8 j ⌝ }
+    ensures { λ _. ⌜ Moved (now (e .entry)) (now (s .entry)) (now (e .exit)) 32 12 j ⌝ }
+{
+    let z = dot16(t, s, x, 0, 1, 0, 8, j);
+    let z = dot16(t, s, x, z, 1, 16, 8, j);
+    put(s, e, 32, 8, j, z);
+    let z = dot16(t, s, x, 0, 1, 0, 9, j);
+    let z = dot16(t, s, x, z, 1, 16, 9, j);
+    put(s, e, 32, 9, j, z);
+    let z = dot16(t, s, x, 0, 1, 0, 10, j);
+    let z = dot16(t, s, x, z, 1, 16, 10, j);
+    put(s, e, 32, 10, j, z);
+    let z = dot16(t, s, x, 0, 1, 0, 11, j);
+    let z = dot16(t, s, x, z, 1, 16, 11, j);
+    put(s, e, 32, 11, j, z);
+}
+
+// Places 12 to 15 of lane j and their mirrors.
+fn lane32_12(t: &[i8; 4096], s: &[i16; 1024], x: &[i32], e: &mut [i32], j: usize)
+    requires { ⌜ Given (now t) (now s) (now x) (now e) 32 12 j ⌝ }
+    ensures { λ _. ⌜ Moved (now (e .entry)) (now (s .entry)) (now (e .exit)) 32 16 j ⌝ }
+{
+    let z = dot16(t, s, x, 0, 1, 0, 12, j);
+    let z = dot16(t, s, x, z, 1, 16, 12, j);
+    put(s, e, 32, 12, j, z);
+    let z = dot16(t, s, x, 0, 1, 0, 13, j);
+    let z = dot16(t, s, x, z, 1, 16, 13, j);
+    put(s, e, 32, 13, j, z);
+    let z = dot16(t, s, x, 0, 1, 0, 14, j);
+    let z = dot16(t, s, x, z, 1, 16, 14, j);
+    put(s, e, 32, 14, j, z);
+    let z = dot16(t, s, x, 0, 1, 0, 15, j);
+    let z = dot16(t, s, x, z, 1, 16, 15, j);
+    put(s, e, 32, 15, j, z);
+}
+
+// Places 16 to 19 of lane j and their mirrors.
+fn lane32_16(t: &[i8; 4096], s: &[i16; 1024], x: &[i32], e: &mut [i32], j: usize)
+    requires { ⌜ Given (now t) (now s) (now x) (now e) 32 16 j ⌝ }
+    ensures { λ _. ⌜ Moved (now (e .entry)) (now (s .entry)) (now (e .exit)) 32 20 j ⌝ }
+{
+    let z = dot16(t, s, x, 0, 1, 0, 16, j);
+    let z = dot16(t, s, x, z, 1, 16, 16, j);
+    put(s, e, 32, 16, j, z);
+    let z = dot16(t, s, x, 0, 1, 0, 17, j);
+    let z = dot16(t, s, x, z, 1, 16, 17, j);
+    put(s, e, 32, 17, j, z);
+    let z = dot16(t, s, x, 0, 1, 0, 18, j);
+    let z = dot16(t, s, x, z, 1, 16, 18, j);
+    put(s, e, 32, 18, j, z);
+    let z = dot16(t, s, x, 0, 1, 0, 19, j);
+    let z = dot16(t, s, x, z, 1, 16, 19, j);
+    put(s, e, 32, 19, j, z);
+}
+
+// Places 20 to 23 of lane j and their mirrors.
+fn lane32_20(t: &[i8; 4096], s: &[i16; 1024], x: &[i32], e: &mut [i32], j: usize)
+    requires { ⌜ Given (now t) (now s) (now x) (now e) 32 20 j ⌝ }
+    ensures { λ _. ⌜ Moved (now (e .entry)) (now (s .entry)) (now (e .exit)) 32 24 j ⌝ }
+{
+    let z = dot16(t, s, x, 0, 1, 0, 20, j);
+    let z = dot16(t, s, x, z, 1, 16, 20, j);
+    put(s, e, 32, 20, j, z);
+    let z = dot16(t, s, x, 0, 1, 0, 21, j);
+    let z = dot16(t, s, x, z, 1, 16, 21, j);
+    put(s, e, 32, 21, j, z);
+    let z = dot16(t, s, x, 0, 1, 0, 22, j);
+    let z = dot16(t, s, x, z, 1, 16, 22, j);
+    put(s, e, 32, 22, j, z);
+    let z = dot16(t, s, x, 0, 1, 0, 23, j);
+    let z = dot16(t, s, x, z, 1, 16, 23, j);
+    put(s, e, 32, 23, j, z);
+}
+
+// Places 24 to 27 of lane j and their mirrors.
+fn lane32_24(t: &[i8; 4096], s: &[i16; 1024], x: &[i32], e: &mut [i32], j: usize)
+    requires { ⌜ Given (now t) (now s) (now x) (now e) 32 24 j ⌝ }
+    ensures { λ _. ⌜ Moved (now (e .entry)) (now (s .entry)) (now (e .exit)) 32 28 j ⌝ }
+{
+    let z = dot16(t, s, x, 0, 1, 0, 24, j);
+    let z = dot16(t, s, x, z, 1, 16, 24, j);
+    put(s, e, 32, 24, j, z);
+    let z = dot16(t, s, x, 0, 1, 0, 25, j);
+    let z = dot16(t, s, x, z, 1, 16, 25, j);
+    put(s, e, 32, 25, j, z);
+    let z = dot16(t, s, x, 0, 1, 0, 26, j);
+    let z = dot16(t, s, x, z, 1, 16, 26, j);
+    put(s, e, 32, 26, j, z);
+    let z = dot16(t, s, x, 0, 1, 0, 27, j);
+    let z = dot16(t, s, x, z, 1, 16, 27, j);
+    put(s, e, 32, 27, j, z);
+}
+
+// Places 28 to 31 of lane j and their mirrors.
+fn lane32_28(t: &[i8; 4096], s: &[i16; 1024], x: &[i32], e: &mut [i32], j: usize)
+    requires { ⌜ Given (now t) (now s) (now x) (now e) 32 28 j ⌝ }
+    ensures { λ _. ⌜ Moved (now (e .entry)) (now (s .entry)) (now (e .exit)) 32 32 j ⌝ }
+{
+    let z = dot16(t, s, x, 0, 1, 0, 28, j);
+    let z = dot16(t, s, x, z, 1, 16, 28, j);
+    put(s, e, 32, 28, j, z);
+    let z = dot16(t, s, x, 0, 1, 0, 29, j);
+    let z = dot16(t, s, x, z, 1, 16, 29, j);
+    put(s, e, 32, 29, j, z);
+    let z = dot16(t, s, x, 0, 1, 0, 30, j);
+    let z = dot16(t, s, x, z, 1, 16, 30, j);
+    put(s, e, 32, 30, j, z);
+    let z = dot16(t, s, x, 0, 1, 0, 31, j);
+    let z = dot16(t, s, x, z, 1, 16, 31, j);
+    put(s, e, 32, 31, j, z);
 }
 
 fn rows32_0(s: &[i16; 1024], e: &mut [i32])
@@ -33,27 +164,10 @@ fn rows32_0(s: &[i16; 1024], e: &mut [i32])
 {
     let t = table::table();
     for j in 0..16 {
-        lane32_0(&t, s, e, j);
+        let x = pick32(s, j);
+        lane32_0(&t, s, &x, e, j);
+        lane32_4(&t, s, &x, e, j);
     }
-}
-
-// Places 8 to 15 of lane j and their mirrors.
-fn lane32_8(t: &[i8; 4096], s: &[i16; 1024], e: &mut [i32], j: usize)
-    requires { ⌜ (now t ≡ flat) × OfLane (now s) (now e) 32 8 j ⌝ }
-    ensures { λ _. ⌜ Moved (now (e .entry)) (now (s .entry)) (now (e .exit)) 32 16 j ⌝ }
-{
-    let a = pick(s, 1, 0, j);
-    let b = pick(s, 1, 1, j);
-    let c = pick(s, 1, 2, j);
-    let d = pick(s, 1, 3, j);
-    put(s, e, 32, 8, j, dot8(t, s, &d, dot8(t, s, &c, dot8(t, s, &b, dot8(t, s, &a, 0, 1, 0, 8, j), 1, 1, 8, j), 1, 2, 8, j), 1, 3, 8, j));
-    put(s, e, 32, 9, j, dot8(t, s, &d, dot8(t, s, &c, dot8(t, s, &b, dot8(t, s, &a, 0, 1, 0, 9, j), 1, 1, 9, j), 1, 2, 9, j), 1, 3, 9, j));
-    put(s, e, 32, 10, j, dot8(t, s, &d, dot8(t, s, &c, dot8(t, s, &b, dot8(t, s, &a, 0, 1, 0, 10, j), 1, 1, 10, j), 1, 2, 10, j), 1, 3, 10, j));
-    put(s, e, 32, 11, j, dot8(t, s, &d, dot8(t, s, &c, dot8(t, s, &b, dot8(t, s, &a, 0, 1, 0, 11, j), 1, 1, 11, j), 1, 2, 11, j), 1, 3, 11, j));
-    put(s, e, 32, 12, j, dot8(t, s, &d, dot8(t, s, &c, dot8(t, s, &b, dot8(t, s, &a, 0, 1, 0, 12, j), 1, 1, 12, j), 1, 2, 12, j), 1, 3, 12, j));
-    put(s, e, 32, 13, j, dot8(t, s, &d, dot8(t, s, &c, dot8(t, s, &b, dot8(t, s, &a, 0, 1, 0, 13, j), 1, 1, 13, j), 1, 2, 13, j), 1, 3, 13, j));
-    put(s, e, 32, 14, j, dot8(t, s, &d, dot8(t, s, &c, dot8(t, s, &b, dot8(t, s, &a, 0, 1, 0, 14, j), 1, 1, 14, j), 1, 2, 14, j), 1, 3, 14, j));
-    put(s, e, 32, 15, j, dot8(t, s, &d, dot8(t, s, &c, dot8(t, s, &b, dot8(t, s, &a, 0, 1, 0, 15, j), 1, 1, 15, j), 1, 2, 15, j), 1, 3, 15, j));
 }
 
 fn rows32_8(s: &[i16; 1024], e: &mut [i32])
@@ -62,27 +176,10 @@ fn rows32_8(s: &[i16; 1024], e: &mut [i32])
 {
     let t = table::table();
     for j in 0..16 {
-        lane32_8(&t, s, e, j);
+        let x = pick32(s, j);
+        lane32_8(&t, s, &x, e, j);
+        lane32_12(&t, s, &x, e, j);
     }
-}
-
-// Places 16 to 23 of lane j and their mirrors.
-fn lane32_16(t: &[i8; 4096], s: &[i16; 1024], e: &mut [i32], j: usize)
-    requires { ⌜ (now t ≡ flat) × OfLane (now s) (now e) 32 16 j ⌝ }
-    ensures { λ _. ⌜ Moved (now (e .entry)) (now (s .entry)) (now (e .exit)) 32 24 j ⌝ }
-{
-    let a = pick(s, 1, 0, j);
-    let b = pick(s, 1, 1, j);
-    let c = pick(s, 1, 2, j);
-    let d = pick(s, 1, 3, j);
-    put(s, e, 32, 16, j, dot8(t, s, &d, dot8(t, s, &c, dot8(t, s, &b, dot8(t, s, &a, 0, 1, 0, 16, j), 1, 1, 16, j), 1, 2, 16, j), 1, 3, 16, j));
-    put(s, e, 32, 17, j, dot8(t, s, &d, dot8(t, s, &c, dot8(t, s, &b, dot8(t, s, &a, 0, 1, 0, 17, j), 1, 1, 17, j), 1, 2, 17, j), 1, 3, 17, j));
-    put(s, e, 32, 18, j, dot8(t, s, &d, dot8(t, s, &c, dot8(t, s, &b, dot8(t, s, &a, 0, 1, 0, 18, j), 1, 1, 18, j), 1, 2, 18, j), 1, 3, 18, j));
-    put(s, e, 32, 19, j, dot8(t, s, &d, dot8(t, s, &c, dot8(t, s, &b, dot8(t, s, &a, 0, 1, 0, 19, j), 1, 1, 19, j), 1, 2, 19, j), 1, 3, 19, j));
-    put(s, e, 32, 20, j, dot8(t, s, &d, dot8(t, s, &c, dot8(t, s, &b, dot8(t, s, &a, 0, 1, 0, 20, j), 1, 1, 20, j), 1, 2, 20, j), 1, 3, 20, j));
-    put(s, e, 32, 21, j, dot8(t, s, &d, dot8(t, s, &c, dot8(t, s, &b, dot8(t, s, &a, 0, 1, 0, 21, j), 1, 1, 21, j), 1, 2, 21, j), 1, 3, 21, j));
-    put(s, e, 32, 22, j, dot8(t, s, &d, dot8(t, s, &c, dot8(t, s, &b, dot8(t, s, &a, 0, 1, 0, 22, j), 1, 1, 22, j), 1, 2, 22, j), 1, 3, 22, j));
-    put(s, e, 32, 23, j, dot8(t, s, &d, dot8(t, s, &c, dot8(t, s, &b, dot8(t, s, &a, 0, 1, 0, 23, j), 1, 1, 23, j), 1, 2, 23, j), 1, 3, 23, j));
 }
 
 fn rows32_16(s: &[i16; 1024], e: &mut [i32])
@@ -91,27 +188,10 @@ fn rows32_16(s: &[i16; 1024], e: &mut [i32])
 {
     let t = table::table();
     for j in 0..16 {
-        lane32_16(&t, s, e, j);
+        let x = pick32(s, j);
+        lane32_16(&t, s, &x, e, j);
+        lane32_20(&t, s, &x, e, j);
     }
-}
-
-// Places 24 to 31 of lane j and their mirrors.
-fn lane32_24(t: &[i8; 4096], s: &[i16; 1024], e: &mut [i32], j: usize)
-    requires { ⌜ (now t ≡ flat) × OfLane (now s) (now e) 32 24 j ⌝ }
-    ensures { λ _. ⌜ Moved (now (e .entry)) (now (s .entry)) (now (e .exit)) 32 32 j ⌝ }
-{
-    let a = pick(s, 1, 0, j);
-    let b = pick(s, 1, 1, j);
-    let c = pick(s, 1, 2, j);
-    let d = pick(s, 1, 3, j);
-    put(s, e, 32, 24, j, dot8(t, s, &d, dot8(t, s, &c, dot8(t, s, &b, dot8(t, s, &a, 0, 1, 0, 24, j), 1, 1, 24, j), 1, 2, 24, j), 1, 3, 24, j));
-    put(s, e, 32, 25, j, dot8(t, s, &d, dot8(t, s, &c, dot8(t, s, &b, dot8(t, s, &a, 0, 1, 0, 25, j), 1, 1, 25, j), 1, 2, 25, j), 1, 3, 25, j));
-    put(s, e, 32, 26, j, dot8(t, s, &d, dot8(t, s, &c, dot8(t, s, &b, dot8(t, s, &a, 0, 1, 0, 26, j), 1, 1, 26, j), 1, 2, 26, j), 1, 3, 26, j));
-    put(s, e, 32, 27, j, dot8(t, s, &d, dot8(t, s, &c, dot8(t, s, &b, dot8(t, s, &a, 0, 1, 0, 27, j), 1, 1, 27, j), 1, 2, 27, j), 1, 3, 27, j));
-    put(s, e, 32, 28, j, dot8(t, s, &d, dot8(t, s, &c, dot8(t, s, &b, dot8(t, s, &a, 0, 1, 0, 28, j), 1, 1, 28, j), 1, 2, 28, j), 1, 3, 28, j));
-    put(s, e, 32, 29, j, dot8(t, s, &d, dot8(t, s, &c, dot8(t, s, &b, dot8(t, s, &a, 0, 1, 0, 29, j), 1, 1, 29, j), 1, 2, 29, j), 1, 3, 29, j));
-    put(s, e, 32, 30, j, dot8(t, s, &d, dot8(t, s, &c, dot8(t, s, &b, dot8(t, s, &a, 0, 1, 0, 30, j), 1, 1, 30, j), 1, 2, 30, j), 1, 3, 30, j));
-    put(s, e, 32, 31, j, dot8(t, s, &d, dot8(t, s, &c, dot8(t, s, &b, dot8(t, s, &a, 0, 1, 0, 31, j), 1, 1, 31, j), 1, 2, 31, j), 1, 3, 31, j));
 }
 
 fn rows32_24(s: &[i16; 1024], e: &mut [i32])
@@ -120,7 +200,9 @@ fn rows32_24(s: &[i16; 1024], e: &mut [i32])
 {
     let t = table::table();
     for j in 0..16 {
-        lane32_24(&t, s, e, j);
+        let x = pick32(s, j);
+        lane32_24(&t, s, &x, e, j);
+        lane32_28(&t, s, &x, e, j);
     }
 }
 

@@ -26,7 +26,10 @@ lane2-requires : tie.Need-lane2-requires Inv-loop μ-loop
 lane2-requires c κs =
     let s = c .before .before .before .before .before in
     let l = c .before .before .before .loop .inv .long in (
-      c .before .before .before .before .table .ensures, s .pre .0, omega (arith, l, s .pre .1), c .before .before .loop-test .taken
+      c .before .before .before .before .table .ensures,
+      s .pre .0,
+      omega (arith, l, s .pre .1),
+      c .before .before .loop-test .taken,
     )
 
 lane4-requires : tie.Need-lane4-requires Inv-loop μ-loop

@@ -1,327 +1,81 @@
--- `levels::lanes::dot8` meets its contract: eight products, added one after the other. Written by tools/levels.py.
+-- `levels::lanes::dot8` meets its contract: 8 smaller ones, one after the other. Written by tools/levels.py.
 -- Assumes nothing.
-use mathlib.Core.Path.{_≡_, _∙_}
-use mathlib.Core.List.{[], _∷_}
-use Prim.Native.Nat.{ℕ, _+_, _*_}
+use mathlib.Core.Path.{_≡_, refl, ap, _∙_}
+use Prim.Native.Nat.{ℕ, _+_}
 use native.Mathlib.Omega.{arith}
-use lib.Dec.{T, ltb, lit<}
-use lib.ListN.{getD}
-use lib.IntN.{pos}
-use mir.Syntax.{w8, w32}
-use Rattle.integers.proofs.Expr.{Ex, var, add, mul, loc, bare, Known, small, env, fit, reads}
-use Rattle.levels.proofs.Steps.{octaves, last-number, so-far-small, number-small, picked-small, eight-more}
+use mir.Syntax.{w32}
+use mir.Facts.{toZ-ofZ}
+use Rattle.integers.proofs.Bits.{back}
+use Rattle.levels.specs.Steps.{half}
+use Rattle.levels.proofs.Steps.{part, few}
 use Rattle.levels.proofs.lanes.dot8.Statement.{statement}
 use Rattle.levels.proofs.lanes.dot8.Tie as tie
 
--- number i of the table and input i
-module _ (s : tie.Start) (i : ℕ) (h : T (ltb i 8)) where
-  abbrev number : Known
-  number =
-      small w8 (getD (s .args .t .now) ((16 * s .args .c + 1) * s .args .q * 64 + s .args .n + i * (s .args .q * 128)) (pos 0)) 90 (number-small (s .pre) i h)
-      tt
+one-requires : tie.Need-one-requires
+one-requires c κs = part _ 8 (c .pre) (c .args .k) (c .args .k) 1 (omega arith) (omega arith) refl (toZ-ofZ (c .fits .z) ∙ c .pre .so-far)
 
-  abbrev input : Known
-  input = small w32 (getD (s .args .x .now) i (pos 0)) 32768 (picked-small (s .pre) i h) tt
+add-one : tie.Need-add-one
+add-one c = omega (arith, few _ 8 (c .before .pre))
 
-abbrev known : tie.Start → ℕ → Known
-known s =
-    env (
-    small w32 (s .args .z) 94371840 (so-far-small (s .pre)) tt
-    ∷ number s 0 tt ∷ input s 0 tt
-    ∷ number s 1 tt ∷ input s 1 tt
-    ∷ number s 2 tt ∷ input s 2 tt
-    ∷ number s 3 tt ∷ input s 3 tt
-    ∷ number s 4 tt ∷ input s 4 tt
-    ∷ number s 5 tt ∷ input s 5 tt
-    ∷ number s 6 tt ∷ input s 6 tt
-    ∷ number s 7 tt ∷ input s 7 tt
-    ∷ []
-    )
+one-requires-2 : tie.Need-one-requires-2
+one-requires-2 c κs = part _ 8 (c .before .pre) (c .before .args .k + 1) (c .before .args .k + 1) 1 (omega arith) (omega arith) (omega arith) (back w32 _ (c .one .ok) ∙ c .one .ensures)
 
--- the product of both, and the sum with so many of them
-abbrev product : ℕ → Ex
-product i = loc w32 (mul (loc w32 (var (i + i + 1))) (var (i + i + 2)))
+add-one-2 : tie.Need-add-one-2
+add-one-2 c = omega (arith, few _ 8 (c .before .before .pre))
 
-abbrev sum0 : Ex
-sum0 = var 0
+one-requires-3 : tie.Need-one-requires-3
+one-requires-3 c κs = part _ 8 (c .before .before .pre) (c .before .before .args .k + 1 + 1) (c .before .before .args .k + 2) 1 (omega arith) (omega arith) (omega arith) (back w32 _ (c .one2 .ok) ∙ c .one2 .ensures)
 
-abbrev sum1 : Ex
-sum1 = loc w32 (add sum0 (product 0))
+add-one-3 : tie.Need-add-one-3
+add-one-3 c = omega (arith, few _ 8 (c .before .before .before .pre))
 
-abbrev sum2 : Ex
-sum2 = loc w32 (add sum1 (product 1))
+one-requires-4 : tie.Need-one-requires-4
+one-requires-4 c κs = part _ 8 (c .before .before .before .pre) (c .before .before .before .args .k + 2 + 1) (c .before .before .before .args .k + 3) 1 (omega arith) (omega arith) (omega arith) (back w32 _ (c .one3 .ok) ∙ c .one3 .ensures)
 
-abbrev sum3 : Ex
-sum3 = loc w32 (add sum2 (product 2))
+add-one-4 : tie.Need-add-one-4
+add-one-4 c = omega (arith, few _ 8 (c .before .before .before .before .pre))
 
-abbrev sum4 : Ex
-sum4 = loc w32 (add sum3 (product 3))
+one-requires-5 : tie.Need-one-requires-5
+one-requires-5 c κs = part _ 8 (c .before .before .before .before .pre) (c .before .before .before .before .args .k + 3 + 1) (c .before .before .before .before .args .k + 4) 1 (omega arith) (omega arith) (omega arith) (back w32 _ (c .one4 .ok) ∙ c .one4 .ensures)
 
-abbrev sum5 : Ex
-sum5 = loc w32 (add sum4 (product 4))
+add-one-5 : tie.Need-add-one-5
+add-one-5 c = omega (arith, few _ 8 (c .before .before .before .before .before .pre))
 
-abbrev sum6 : Ex
-sum6 = loc w32 (add sum5 (product 5))
+one-requires-6 : tie.Need-one-requires-6
+one-requires-6 c κs = part _ 8 (c .before .before .before .before .before .pre) (c .before .before .before .before .before .args .k + 4 + 1) (c .before .before .before .before .before .args .k + 5) 1 (omega arith) (omega arith) (omega arith) (back w32 _ (c .one5 .ok) ∙ c .one5 .ensures)
 
-abbrev sum7 : Ex
-sum7 = loc w32 (add sum6 (product 6))
+add-one-6 : tie.Need-add-one-6
+add-one-6 c = omega (arith, few _ 8 (c .before .before .before .before .before .before .pre))
 
-abbrev sum8 : Ex
-sum8 = loc w32 (add sum7 (product 7))
+one-requires-7 : tie.Need-one-requires-7
+one-requires-7 c κs = part _ 8 (c .before .before .before .before .before .before .pre) (c .before .before .before .before .before .before .args .k + 5 + 1) (c .before .before .before .before .before .before .args .k + 6) 1 (omega arith) (omega arith) (omega arith) (back w32 _ (c .one6 .ok) ∙ c .one6 .ensures)
 
-mul-at : tie.Need-mul-at
-mul-at c = omega (arith, octaves _ _ _ _ (c .pre .inside), last-number _ _ _ _ (c .pre .inside))
+add-one-7 : tie.Need-add-one-7
+add-one-7 c = omega (arith, few _ 8 (c .before .before .before .before .before .before .before .pre))
 
-add-at : tie.Need-add-at
-add-at c = omega (arith, octaves _ _ _ _ (c .pre .inside), last-number _ _ _ _ (c .pre .inside))
-
-mul-at-2 : tie.Need-mul-at-2
-mul-at-2 c = omega (arith, octaves _ _ _ _ (c .pre .inside), last-number _ _ _ _ (c .pre .inside))
-
-mul-at-3 : tie.Need-mul-at-3
-mul-at-3 c = omega (arith, octaves _ _ _ _ (c .pre .inside), last-number _ _ _ _ (c .pre .inside))
-
-add-at-2 : tie.Need-add-at-2
-add-at-2 c = omega (arith, octaves _ _ _ _ (c .pre .inside), last-number _ _ _ _ (c .pre .inside))
-
-mul-step : tie.Need-mul-step
-mul-step c = omega (arith, octaves _ _ _ _ (c .pre .inside), last-number _ _ _ _ (c .pre .inside))
-
-mul-result : tie.Need-mul-result
-mul-result c = omega (arith, last-number _ _ _ _ (c .pre .inside))
-
-add-result : tie.Need-add-result
-add-result c = omega (arith, last-number _ _ _ _ (c .pre .inside))
-
-element-copy-out-result : tie.Need-element-copy-out-result
-element-copy-out-result c = omega (arith, last-number _ _ _ _ (c .pre .inside))
-
-cast-result : tie.Need-cast-result
-cast-result c = fit (known (c .before)) w32 (var 1) tt
-
-element-copy-out-result-2 : tie.Need-element-copy-out-result-2
-element-copy-out-result-2 c = lit< tt
-
-mul-result-2 : tie.Need-mul-result-2
-mul-result-2 c = fit (known (c .before .before)) w32 (bare (product 0)) tt
-
-add-result-2 : tie.Need-add-result-2
-add-result-2 c = fit (known (c .before .before)) w32 (bare sum1) tt
-
-mul-result-3 : tie.Need-mul-result-3
-mul-result-3 c = omega (arith, last-number _ _ _ _ (c .before .before .pre .inside))
-
-add-result-3 : tie.Need-add-result-3
-add-result-3 c = omega (arith, last-number _ _ _ _ (c .before .before .pre .inside))
-
-element-copy-out-result-3 : tie.Need-element-copy-out-result-3
-element-copy-out-result-3 c = omega (arith, last-number _ _ _ _ (c .before .before .pre .inside))
-
-cast-result-2 : tie.Need-cast-result-2
-cast-result-2 c = fit (known (c .before .before .before)) w32 (var 3) tt
-
-element-copy-out-result-4 : tie.Need-element-copy-out-result-4
-element-copy-out-result-4 c = lit< tt
-
-mul-result-4 : tie.Need-mul-result-4
-mul-result-4 c = fit (known (c .before .before .before .before)) w32 (bare (product 1)) tt
-
-add-result-4 : tie.Need-add-result-4
-add-result-4 c = fit (known (c .before .before .before .before)) w32 (bare sum2) tt
-
-mul-result-5 : tie.Need-mul-result-5
-mul-result-5 c = omega (arith, last-number _ _ _ _ (c .before .before .before .before .pre .inside))
-
-add-result-5 : tie.Need-add-result-5
-add-result-5 c = omega (arith, last-number _ _ _ _ (c .before .before .before .before .pre .inside))
-
-element-copy-out-result-5 : tie.Need-element-copy-out-result-5
-element-copy-out-result-5 c = omega (arith, last-number _ _ _ _ (c .before .before .before .before .pre .inside))
-
-cast-result-3 : tie.Need-cast-result-3
-cast-result-3 c = fit (known (c .before .before .before .before .before)) w32 (var 5) tt
-
-element-copy-out-result-6 : tie.Need-element-copy-out-result-6
-element-copy-out-result-6 c = lit< tt
-
-mul-result-6 : tie.Need-mul-result-6
-mul-result-6 c = fit (known (c .before .before .before .before .before .before)) w32 (bare (product 2)) tt
-
-add-result-6 : tie.Need-add-result-6
-add-result-6 c = fit (known (c .before .before .before .before .before .before)) w32 (bare sum3) tt
-
-mul-result-7 : tie.Need-mul-result-7
-mul-result-7 c = omega (arith, last-number _ _ _ _ (c .before .before .before .before .before .before .pre .inside))
-
-add-result-7 : tie.Need-add-result-7
-add-result-7 c = omega (arith, last-number _ _ _ _ (c .before .before .before .before .before .before .pre .inside))
-
-element-copy-out-result-7 : tie.Need-element-copy-out-result-7
-element-copy-out-result-7 c = omega (arith, last-number _ _ _ _ (c .before .before .before .before .before .before .pre .inside))
-
-cast-result-4 : tie.Need-cast-result-4
-cast-result-4 c = fit (known (c .before .before .before .before .before .before .before)) w32 (var 7) tt
-
-element-copy-out-result-8 : tie.Need-element-copy-out-result-8
-element-copy-out-result-8 c = lit< tt
-
-mul-result-8 : tie.Need-mul-result-8
-mul-result-8 c = fit (known (c .before .before .before .before .before .before .before .before)) w32 (bare (product 3)) tt
-
-add-result-8 : tie.Need-add-result-8
-add-result-8 c = fit (known (c .before .before .before .before .before .before .before .before)) w32 (bare sum4) tt
-
-mul-result-9 : tie.Need-mul-result-9
-mul-result-9 c = omega (arith, last-number _ _ _ _ (c .before .before .before .before .before .before .before .before .pre .inside))
-
-add-result-9 : tie.Need-add-result-9
-add-result-9 c = omega (arith, last-number _ _ _ _ (c .before .before .before .before .before .before .before .before .pre .inside))
-
-element-copy-out-result-9 : tie.Need-element-copy-out-result-9
-element-copy-out-result-9 c = omega (arith, last-number _ _ _ _ (c .before .before .before .before .before .before .before .before .pre .inside))
-
-cast-result-5 : tie.Need-cast-result-5
-cast-result-5 c = fit (known (c .before .before .before .before .before .before .before .before .before)) w32 (var 9) tt
-
-element-copy-out-result-10 : tie.Need-element-copy-out-result-10
-element-copy-out-result-10 c = lit< tt
-
-mul-result-10 : tie.Need-mul-result-10
-mul-result-10 c = fit (known (c .before .before .before .before .before .before .before .before .before .before)) w32 (bare (product 4)) tt
-
-add-result-10 : tie.Need-add-result-10
-add-result-10 c = fit (known (c .before .before .before .before .before .before .before .before .before .before)) w32 (bare sum5) tt
-
-mul-result-11 : tie.Need-mul-result-11
-mul-result-11 c = omega (arith, last-number _ _ _ _ (c .before .before .before .before .before .before .before .before .before .before .pre .inside))
-
-add-result-11 : tie.Need-add-result-11
-add-result-11 c = omega (arith, last-number _ _ _ _ (c .before .before .before .before .before .before .before .before .before .before .pre .inside))
-
-element-copy-out-result-11 : tie.Need-element-copy-out-result-11
-element-copy-out-result-11 c = omega (arith, last-number _ _ _ _ (c .before .before .before .before .before .before .before .before .before .before .pre .inside))
-
-cast-result-6 : tie.Need-cast-result-6
-cast-result-6 c = fit (known (c .before .before .before .before .before .before .before .before .before .before .before)) w32 (var 11) tt
-
-element-copy-out-result-12 : tie.Need-element-copy-out-result-12
-element-copy-out-result-12 c = lit< tt
-
-mul-result-12 : tie.Need-mul-result-12
-mul-result-12 c = fit (known (c .before .before .before .before .before .before .before .before .before .before .before .before)) w32 (bare (product 5)) tt
-
-add-result-12 : tie.Need-add-result-12
-add-result-12 c = fit (known (c .before .before .before .before .before .before .before .before .before .before .before .before)) w32 (bare sum6) tt
-
-mul-result-13 : tie.Need-mul-result-13
-mul-result-13 c = omega (arith, last-number _ _ _ _ (c .before .before .before .before .before .before .before .before .before .before .before .before .pre .inside))
-
-add-result-13 : tie.Need-add-result-13
-add-result-13 c = omega (arith, last-number _ _ _ _ (c .before .before .before .before .before .before .before .before .before .before .before .before .pre .inside))
-
-element-copy-out-result-13 : tie.Need-element-copy-out-result-13
-element-copy-out-result-13 c = omega (arith, last-number _ _ _ _ (c .before .before .before .before .before .before .before .before .before .before .before .before .pre .inside))
-
-cast-result-7 : tie.Need-cast-result-7
-cast-result-7 c = fit (known (c .before .before .before .before .before .before .before .before .before .before .before .before .before)) w32 (var 13) tt
-
-element-copy-out-result-14 : tie.Need-element-copy-out-result-14
-element-copy-out-result-14 c = lit< tt
-
-mul-result-14 : tie.Need-mul-result-14
-mul-result-14 c = fit (known (c .before .before .before .before .before .before .before .before .before .before .before .before .before .before)) w32 (bare (product 6)) tt
-
-add-result-14 : tie.Need-add-result-14
-add-result-14 c = fit (known (c .before .before .before .before .before .before .before .before .before .before .before .before .before .before)) w32 (bare sum7) tt
-
-mul-result-15 : tie.Need-mul-result-15
-mul-result-15 c = omega (arith, last-number _ _ _ _ (c .before .before .before .before .before .before .before .before .before .before .before .before .before .before .pre .inside))
-
-add-result-15 : tie.Need-add-result-15
-add-result-15 c = omega (arith, last-number _ _ _ _ (c .before .before .before .before .before .before .before .before .before .before .before .before .before .before .pre .inside))
-
-element-copy-out-result-15 : tie.Need-element-copy-out-result-15
-element-copy-out-result-15 c = omega (arith, last-number _ _ _ _ (c .before .before .before .before .before .before .before .before .before .before .before .before .before .before .pre .inside))
-
-cast-result-8 : tie.Need-cast-result-8
-cast-result-8 c = fit (known (c .before .before .before .before .before .before .before .before .before .before .before .before .before .before .before)) w32 (var 15) tt
-
-element-copy-out-result-16 : tie.Need-element-copy-out-result-16
-element-copy-out-result-16 c = lit< tt
-
-mul-result-16 : tie.Need-mul-result-16
-mul-result-16 c = fit (known (c .before .before .before .before .before .before .before .before .before .before .before .before .before .before .before .before)) w32 (bare (product 7)) tt
-
-add-result-16 : tie.Need-add-result-16
-add-result-16 c = fit (known (c .before .before .before .before .before .before .before .before .before .before .before .before .before .before .before .before)) w32 (bare sum8) tt
+one-requires-8 : tie.Need-one-requires-8
+one-requires-8 c κs = part _ 8 (c .before .before .before .before .before .before .before .pre) (c .before .before .before .before .before .before .before .args .k + 6 + 1) (c .before .before .before .before .before .before .before .args .k + 7) 1 (omega arith) (omega arith) (omega arith) (back w32 _ (c .one7 .ok) ∙ c .one7 .ensures)
 
 returns : tie.Need-returns
-returns c = let s = c .before .before .before .before .before .before .before .before .before .before .before .before .before .before .before .before in reads (known s) sum8 tt ∙ eight-more (s .pre)
+returns c = let s = c .before .before .before .before .before .before .before .before in let e : s .args .k + 7 + 1 ≡ s .args .k + 8 = omega arith in back w32 _ (c .one8 .ok) ∙ c .one8 .ensures ∙ ap (λ (i : ℕ). half (s .args .s .now) (s .args .j) (s .args .q) i (s .args .n)) e
 
 pub dot8-spec : {M : Type 1} → statement M
 dot8-spec =
     tie.close
     (tie.spec
-    mul-at
-    add-at
-    mul-at-2
-    mul-at-3
-    add-at-2
-    mul-step
-    mul-result
-    add-result
-    element-copy-out-result
-    cast-result
-    element-copy-out-result-2
-    mul-result-2
-    add-result-2
-    mul-result-3
-    add-result-3
-    element-copy-out-result-3
-    cast-result-2
-    element-copy-out-result-4
-    mul-result-4
-    add-result-4
-    mul-result-5
-    add-result-5
-    element-copy-out-result-5
-    cast-result-3
-    element-copy-out-result-6
-    mul-result-6
-    add-result-6
-    mul-result-7
-    add-result-7
-    element-copy-out-result-7
-    cast-result-4
-    element-copy-out-result-8
-    mul-result-8
-    add-result-8
-    mul-result-9
-    add-result-9
-    element-copy-out-result-9
-    cast-result-5
-    element-copy-out-result-10
-    mul-result-10
-    add-result-10
-    mul-result-11
-    add-result-11
-    element-copy-out-result-11
-    cast-result-6
-    element-copy-out-result-12
-    mul-result-12
-    add-result-12
-    mul-result-13
-    add-result-13
-    element-copy-out-result-13
-    cast-result-7
-    element-copy-out-result-14
-    mul-result-14
-    add-result-14
-    mul-result-15
-    add-result-15
-    element-copy-out-result-15
-    cast-result-8
-    element-copy-out-result-16
-    mul-result-16
-    add-result-16
+    one-requires
+    add-one
+    one-requires-2
+    add-one-2
+    one-requires-3
+    add-one-3
+    one-requires-4
+    add-one-4
+    one-requires-5
+    add-one-5
+    one-requires-6
+    add-one-6
+    one-requires-7
+    add-one-7
+    one-requires-8
     returns)

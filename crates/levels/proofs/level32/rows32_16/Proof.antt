@@ -1,7 +1,9 @@
 -- `levels::level32::rows32_16` meets its contract: lane after lane. Written by tools/levels.py.
 -- Assumes nothing.
+use mathlib.Core.Path.{sym}
 use Prim.Native.Nat.{_-_}
 use native.Mathlib.Omega.{arith}
+use Rattle.levels.proofs.AsLine.{kept-then}
 use Rattle.levels.proofs.Passes.{Places, Passed, passed-none, passed-more, next-lane, passed-all}
 use Rattle.levels.proofs.level32.rows32_16.Statement.{statement}
 use Rattle.levels.proofs.level32.rows32_16.Tie as tie
@@ -18,8 +20,20 @@ table-requires c κs = tt
 loop-holds : tie.Need-loop-holds Inv-loop μ-loop
 loop-holds c = passed-none (c .before .pre .part)
 
+pick32-requires : tie.Need-pick32-requires Inv-loop μ-loop
+pick32-requires c κs = c .loop-test .taken
+
+slice-aggregate-lane32-16 : tie.Need-slice-aggregate-lane32-16 Inv-loop μ-loop
+slice-aggregate-lane32-16 c = sym (c .before .before .pick32 .ensures .long)
+
 lane32-16-requires : tie.Need-lane32-16-requires Inv-loop μ-loop
-lane32-16-requires c κs = (c .before .before .before .before .table .ensures, next-lane (c .before .before .before .before .before .pre .level) (c .before .before .before .loop .inv) (c .before .before .loop-test .taken))
+lane32-16-requires c κs = record { table = c .before .before .before .before .before .before .table .ensures; lane = next-lane (c .before .before .before .before .before .before .before .pre .level) (c .before .before .before .before .before .loop .inv) (c .before .before .before .before .loop-test .taken); picks = c .before .before .before .pick32 .ensures }
+
+slice-aggregate-lane32-20 : tie.Need-slice-aggregate-lane32-20 Inv-loop μ-loop
+slice-aggregate-lane32-20 c = sym (c .before .before .before .before .before .before .before .pick32 .ensures .long)
+
+lane32-20-requires : tie.Need-lane32-20-requires Inv-loop μ-loop
+lane32-20-requires c κs = record { table = c .before .before .before .before .before .before .before .before .before .before .before .table .ensures; lane = c .before .before .before .before .lane32-16 .ensures .lane; picks = c .before .before .before .before .before .before .before .before .pick32 .ensures }
 
 add-j : tie.Need-add-j Inv-loop μ-loop
 add-j c = omega arith
@@ -28,7 +42,7 @@ loop-less : tie.Need-loop-less Inv-loop μ-loop
 loop-less c = omega arith
 
 loop-again : tie.Need-loop-again Inv-loop μ-loop
-loop-again c = passed-more (c .before .before .before .before .before .loop .inv) (c .before .before .before .before .loop-test .taken) (c .before .lane32-16 .ensures .kept) (c .before .lane32-16 .ensures .lane .part)
+loop-again c = passed-more (c .before .before .before .before .before .before .before .before .before .before .before .before .loop .inv) (c .before .before .before .before .before .before .before .before .before .before .before .loop-test .taken) (kept-then (c .before .before .before .before .before .before .lane32-16 .ensures .kept) (c .before .lane32-20 .ensures .kept)) (c .before .lane32-20 .ensures .lane .part)
 
 same-length : tie.Need-same-length Inv-loop μ-loop
 same-length c = c .before .loop .inv .long
@@ -44,7 +58,11 @@ rows32-16-spec =
     μ-loop
     table-requires
     loop-holds
+    pick32-requires
+    slice-aggregate-lane32-16
     lane32-16-requires
+    slice-aggregate-lane32-20
+    lane32-20-requires
     add-j
     loop-less
     loop-again

@@ -1,6 +1,7 @@
--- `levels::level8::lane8_0` meets its contract: places 0 to 7, one after the other. Written by tools/levels.py.
+-- `levels::level8::lane8_0` meets its contract: places 0 to 3, one after the other. Written by tools/levels.py.
 -- Assumes nothing.
 use mathlib.Core.Path.{_∙_}
+use native.Mathlib.Omega.{arith}
 use lib.Dec.{lit<, lit≤}
 use mir.Syntax.{w32}
 use Rattle.integers.proofs.Bits.{back}
@@ -9,68 +10,40 @@ use Rattle.levels.proofs.Steps.{half-none}
 use Rattle.levels.proofs.level8.lane8_0.Statement.{statement}
 use Rattle.levels.proofs.level8.lane8_0.Tie as tie
 
-pick-requires : tie.Need-pick-requires
-pick-requires c κs = record { some = lit< tt; rows = lit≤ tt; column = lit< tt; among = c .pre .1 .among }
-
 dot8-requires : tie.Need-dot8-requires
-dot8-requires c κs = record { table = c .before .before .before .pre .0; narrow = c .before .before .before .pre .1 .level .narrow; inside = record { some = lit< tt; rows = lit≤ tt; column = lit< tt; among = c .before .before .before .pre .1 .among }; picked = c .before .before .pick .ensures; so-far = half-none _ _ _ _ }
+dot8-requires c κs = record { table = c .pre .table; narrow = c .pre .lane .level .narrow; inside = record { some = lit< tt; rows = lit≤ tt; column = lit< tt; among = c .pre .lane .among }; room = omega (arith, c .pre .picks .long); picked = c .pre .picks .picked; so-far = half-none _ _ _ _ }
 
 put-requires : tie.Need-put-requires
-put-requires c κs = record { lane = c .before .before .before .before .pre .1; place = lit< tt; odd = back w32 _ (c .dot8 .ok) ∙ c .dot8 .ensures }
+put-requires c κs = record { lane = c .before .before .pre .lane; place = lit< tt; odd = back w32 _ (c .before .dot8 .ok) ∙ c .before .dot8 .ensures }
 
 dot8-requires-2 : tie.Need-dot8-requires-2
-dot8-requires-2 c κs = record { table = c .before .before .before .before .before .before .before .before .pre .0; narrow = c .before .before .before .before .before .before .before .before .pre .1 .level .narrow; inside = record { some = lit< tt; rows = lit≤ tt; column = lit< tt; among = c .before .before .before .before .before .before .before .before .pre .1 .among }; picked = c .before .before .before .before .before .before .before .pick .ensures; so-far = half-none _ _ _ _ }
+dot8-requires-2 c κs = record { table = c .before .before .before .before .pre .table; narrow = c .before .before .before .before .pre .lane .level .narrow; inside = record { some = lit< tt; rows = lit≤ tt; column = lit< tt; among = c .before .before .before .before .pre .lane .among }; room = omega (arith, c .before .before .before .before .pre .picks .long); picked = c .before .before .before .before .pre .picks .picked; so-far = half-none _ _ _ _ }
 
 put-requires-2 : tie.Need-put-requires-2
-put-requires-2 c κs = record { lane = c .before .before .before .before .put .ensures .lane; place = lit< tt; odd = back w32 _ (c .dot82 .ok) ∙ c .dot82 .ensures }
+put-requires-2 c κs = record { lane = c .before .before .before .put .ensures .lane; place = lit< tt; odd = back w32 _ (c .before .dot82 .ok) ∙ c .before .dot82 .ensures }
 
 dot8-requires-3 : tie.Need-dot8-requires-3
-dot8-requires-3 c κs = record { table = c .before .before .before .before .before .before .before .before .before .before .before .before .before .pre .0; narrow = c .before .before .before .before .before .before .before .before .before .before .before .before .before .pre .1 .level .narrow; inside = record { some = lit< tt; rows = lit≤ tt; column = lit< tt; among = c .before .before .before .before .before .before .before .before .before .before .before .before .before .pre .1 .among }; picked = c .before .before .before .before .before .before .before .before .before .before .before .before .pick .ensures; so-far = half-none _ _ _ _ }
+dot8-requires-3 c κs = record { table = c .before .before .before .before .before .before .before .before .pre .table; narrow = c .before .before .before .before .before .before .before .before .pre .lane .level .narrow; inside = record { some = lit< tt; rows = lit≤ tt; column = lit< tt; among = c .before .before .before .before .before .before .before .before .pre .lane .among }; room = omega (arith, c .before .before .before .before .before .before .before .before .pre .picks .long); picked = c .before .before .before .before .before .before .before .before .pre .picks .picked; so-far = half-none _ _ _ _ }
 
 put-requires-3 : tie.Need-put-requires-3
-put-requires-3 c κs = record { lane = c .before .before .before .before .put2 .ensures .lane; place = lit< tt; odd = back w32 _ (c .dot83 .ok) ∙ c .dot83 .ensures }
+put-requires-3 c κs = record { lane = c .before .before .before .put2 .ensures .lane; place = lit< tt; odd = back w32 _ (c .before .dot83 .ok) ∙ c .before .dot83 .ensures }
 
 dot8-requires-4 : tie.Need-dot8-requires-4
-dot8-requires-4 c κs = record { table = c .before .before .before .before .before .before .before .before .before .before .before .before .before .before .before .before .before .before .pre .0; narrow = c .before .before .before .before .before .before .before .before .before .before .before .before .before .before .before .before .before .before .pre .1 .level .narrow; inside = record { some = lit< tt; rows = lit≤ tt; column = lit< tt; among = c .before .before .before .before .before .before .before .before .before .before .before .before .before .before .before .before .before .before .pre .1 .among }; picked = c .before .before .before .before .before .before .before .before .before .before .before .before .before .before .before .before .before .pick .ensures; so-far = half-none _ _ _ _ }
+dot8-requires-4 c κs = record { table = c .before .before .before .before .before .before .before .before .before .before .before .before .pre .table; narrow = c .before .before .before .before .before .before .before .before .before .before .before .before .pre .lane .level .narrow; inside = record { some = lit< tt; rows = lit≤ tt; column = lit< tt; among = c .before .before .before .before .before .before .before .before .before .before .before .before .pre .lane .among }; room = omega (arith, c .before .before .before .before .before .before .before .before .before .before .before .before .pre .picks .long); picked = c .before .before .before .before .before .before .before .before .before .before .before .before .pre .picks .picked; so-far = half-none _ _ _ _ }
 
 put-requires-4 : tie.Need-put-requires-4
-put-requires-4 c κs = record { lane = c .before .before .before .before .put3 .ensures .lane; place = lit< tt; odd = back w32 _ (c .dot84 .ok) ∙ c .dot84 .ensures }
-
-dot8-requires-5 : tie.Need-dot8-requires-5
-dot8-requires-5 c κs = record { table = c .before .before .before .before .before .before .before .before .before .before .before .before .before .before .before .before .before .before .before .before .before .before .before .pre .0; narrow = c .before .before .before .before .before .before .before .before .before .before .before .before .before .before .before .before .before .before .before .before .before .before .before .pre .1 .level .narrow; inside = record { some = lit< tt; rows = lit≤ tt; column = lit< tt; among = c .before .before .before .before .before .before .before .before .before .before .before .before .before .before .before .before .before .before .before .before .before .before .before .pre .1 .among }; picked = c .before .before .before .before .before .before .before .before .before .before .before .before .before .before .before .before .before .before .before .before .before .before .pick .ensures; so-far = half-none _ _ _ _ }
-
-put-requires-5 : tie.Need-put-requires-5
-put-requires-5 c κs = record { lane = c .before .before .before .before .put4 .ensures .lane; place = lit< tt; odd = back w32 _ (c .dot85 .ok) ∙ c .dot85 .ensures }
-
-dot8-requires-6 : tie.Need-dot8-requires-6
-dot8-requires-6 c κs = record { table = c .before .before .before .before .before .before .before .before .before .before .before .before .before .before .before .before .before .before .before .before .before .before .before .before .before .before .before .before .pre .0; narrow = c .before .before .before .before .before .before .before .before .before .before .before .before .before .before .before .before .before .before .before .before .before .before .before .before .before .before .before .before .pre .1 .level .narrow; inside = record { some = lit< tt; rows = lit≤ tt; column = lit< tt; among = c .before .before .before .before .before .before .before .before .before .before .before .before .before .before .before .before .before .before .before .before .before .before .before .before .before .before .before .before .pre .1 .among }; picked = c .before .before .before .before .before .before .before .before .before .before .before .before .before .before .before .before .before .before .before .before .before .before .before .before .before .before .before .pick .ensures; so-far = half-none _ _ _ _ }
-
-put-requires-6 : tie.Need-put-requires-6
-put-requires-6 c κs = record { lane = c .before .before .before .before .put5 .ensures .lane; place = lit< tt; odd = back w32 _ (c .dot86 .ok) ∙ c .dot86 .ensures }
-
-dot8-requires-7 : tie.Need-dot8-requires-7
-dot8-requires-7 c κs = record { table = c .before .before .before .before .before .before .before .before .before .before .before .before .before .before .before .before .before .before .before .before .before .before .before .before .before .before .before .before .before .before .before .before .before .pre .0; narrow = c .before .before .before .before .before .before .before .before .before .before .before .before .before .before .before .before .before .before .before .before .before .before .before .before .before .before .before .before .before .before .before .before .before .pre .1 .level .narrow; inside = record { some = lit< tt; rows = lit≤ tt; column = lit< tt; among = c .before .before .before .before .before .before .before .before .before .before .before .before .before .before .before .before .before .before .before .before .before .before .before .before .before .before .before .before .before .before .before .before .before .pre .1 .among }; picked = c .before .before .before .before .before .before .before .before .before .before .before .before .before .before .before .before .before .before .before .before .before .before .before .before .before .before .before .before .before .before .before .before .pick .ensures; so-far = half-none _ _ _ _ }
-
-put-requires-7 : tie.Need-put-requires-7
-put-requires-7 c κs = record { lane = c .before .before .before .before .put6 .ensures .lane; place = lit< tt; odd = back w32 _ (c .dot87 .ok) ∙ c .dot87 .ensures }
-
-dot8-requires-8 : tie.Need-dot8-requires-8
-dot8-requires-8 c κs = record { table = c .before .before .before .before .before .before .before .before .before .before .before .before .before .before .before .before .before .before .before .before .before .before .before .before .before .before .before .before .before .before .before .before .before .before .before .before .before .before .pre .0; narrow = c .before .before .before .before .before .before .before .before .before .before .before .before .before .before .before .before .before .before .before .before .before .before .before .before .before .before .before .before .before .before .before .before .before .before .before .before .before .before .pre .1 .level .narrow; inside = record { some = lit< tt; rows = lit≤ tt; column = lit< tt; among = c .before .before .before .before .before .before .before .before .before .before .before .before .before .before .before .before .before .before .before .before .before .before .before .before .before .before .before .before .before .before .before .before .before .before .before .before .before .before .pre .1 .among }; picked = c .before .before .before .before .before .before .before .before .before .before .before .before .before .before .before .before .before .before .before .before .before .before .before .before .before .before .before .before .before .before .before .before .before .before .before .before .before .pick .ensures; so-far = half-none _ _ _ _ }
-
-put-requires-8 : tie.Need-put-requires-8
-put-requires-8 c κs = record { lane = c .before .before .before .before .put7 .ensures .lane; place = lit< tt; odd = back w32 _ (c .dot88 .ok) ∙ c .dot88 .ensures }
+put-requires-4 c κs = record { lane = c .before .before .before .put3 .ensures .lane; place = lit< tt; odd = back w32 _ (c .before .dot84 .ok) ∙ c .before .dot84 .ensures }
 
 same-length : tie.Need-same-length
-same-length c = kept-then (c .before .before .before .before .before .before .before .before .before .before .before .before .before .before .before .before .before .before .before .before .before .before .before .before .before .before .before .before .before .before .before .before .before .before .before .before .put .ensures .kept) (kept-then (c .before .before .before .before .before .before .before .before .before .before .before .before .before .before .before .before .before .before .before .before .before .before .before .before .before .before .before .before .before .before .before .put2 .ensures .kept) (kept-then (c .before .before .before .before .before .before .before .before .before .before .before .before .before .before .before .before .before .before .before .before .before .before .before .before .before .before .put3 .ensures .kept) (kept-then (c .before .before .before .before .before .before .before .before .before .before .before .before .before .before .before .before .before .before .before .before .before .put4 .ensures .kept) (kept-then (c .before .before .before .before .before .before .before .before .before .before .before .before .before .before .before .before .put5 .ensures .kept) (kept-then (c .before .before .before .before .before .before .before .before .before .before .before .put6 .ensures .kept) (kept-then (c .before .before .before .before .before .before .put7 .ensures .kept) (c .before .put8 .ensures .kept))))))) .long
+same-length c = kept-then (c .before .before .before .before .before .before .before .before .before .before .before .before .before .put .ensures .kept) (kept-then (c .before .before .before .before .before .before .before .before .before .put2 .ensures .kept) (kept-then (c .before .before .before .before .before .put3 .ensures .kept) (c .before .put4 .ensures .kept))) .long
 
 returns : tie.Need-returns
-returns c = record { lane = c .before .put8 .ensures .lane; kept = kept-then (c .before .before .before .before .before .before .before .before .before .before .before .before .before .before .before .before .before .before .before .before .before .before .before .before .before .before .before .before .before .before .before .before .before .before .before .before .put .ensures .kept) (kept-then (c .before .before .before .before .before .before .before .before .before .before .before .before .before .before .before .before .before .before .before .before .before .before .before .before .before .before .before .before .before .before .before .put2 .ensures .kept) (kept-then (c .before .before .before .before .before .before .before .before .before .before .before .before .before .before .before .before .before .before .before .before .before .before .before .before .before .before .put3 .ensures .kept) (kept-then (c .before .before .before .before .before .before .before .before .before .before .before .before .before .before .before .before .before .before .before .before .before .put4 .ensures .kept) (kept-then (c .before .before .before .before .before .before .before .before .before .before .before .before .before .before .before .before .put5 .ensures .kept) (kept-then (c .before .before .before .before .before .before .before .before .before .before .before .put6 .ensures .kept) (kept-then (c .before .before .before .before .before .before .put7 .ensures .kept) (c .before .put8 .ensures .kept))))))) }
+returns c = record { lane = c .before .put4 .ensures .lane; kept = kept-then (c .before .before .before .before .before .before .before .before .before .before .before .before .before .put .ensures .kept) (kept-then (c .before .before .before .before .before .before .before .before .before .put2 .ensures .kept) (kept-then (c .before .before .before .before .before .put3 .ensures .kept) (c .before .put4 .ensures .kept))) }
 
 pub lane8-0-spec : {M : Type 1} → statement M
 lane8-0-spec =
     tie.close
     (tie.spec
-    pick-requires
     dot8-requires
     put-requires
     dot8-requires-2
@@ -79,13 +52,5 @@ lane8-0-spec =
     put-requires-3
     dot8-requires-4
     put-requires-4
-    dot8-requires-5
-    put-requires-5
-    dot8-requires-6
-    put-requires-6
-    dot8-requires-7
-    put-requires-7
-    dot8-requires-8
-    put-requires-8
     same-length
     returns)
