@@ -1,10 +1,9 @@
 // SATD, after the Rust's evce_satd_16b. Document 01, "Distortion".
 // Differs from the Rust in: a call that breaks a test is refused, odd sides too; the depth is an argument.
 ghost use mathlib.Core.Path.{_≡_};
-ghost use Prim.Native.Nat.{_-_, _/_, _^_, _<_, _≤_};
+ghost use Prim.Native.Nat.{_-_, _^_, _<_, _≤_};
 ghost use lib.ListN.{length};
 ghost use Rattle.evc.specs.Answers.{distortionReading};
-ghost use Rattle.evc.specs.Differences.{difference};
 ghost use Rattle.evc.specs.Tiles as tiles;
 ghost use Rattle.evc.specs.Calls.{satd16b};
 ghost use Rattle.evc.specs.Planes.{planeOf};

@@ -1,7 +1,6 @@
 // Two blocks, row by row: the totals of SAD and SSD before a caller divides them. A block is a start and a stride in its buffer, so a packed
 // block is one whose stride is its width. Document 01, "Distortion".
 // Differs from the Rust in: the common widths are literals, for which compilers write straight vector code.
-ghost use mathlib.Core.Path.{_≡_};
 ghost use Prim.Native.Nat.{_≤_};
 ghost use lib.ListN.{length};
 ghost use Rattle.planes.specs.Blocks.{TwoBlocks};

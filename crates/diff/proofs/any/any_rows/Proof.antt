@@ -1,5 +1,5 @@
 -- `any_rows` meets its contract. Assumes nothing.
-use Prim.Native.Nat.{ℕ, _-_}
+use Prim.Native.Nat.{_-_}
 use native.Mathlib.Omega.{arith}
 use lib.Bits.{bitOr}
 use Rattle.integers.specs.Or.{ofOr, orN}

@@ -1,12 +1,14 @@
 -- `sad_answer` meets its contract. Assumes nothing.
 use mathlib.Core.Path.{_≡_, sym, _∙_}
 use mathlib.Core.Bool.{false}
-use Prim.Native.Nat.{_-_, _^_, _≤_}
+use Prim.Native.Nat.{ℕ, _/_, _^_, _≤_}
 use native.Mathlib.Nat.{div-le-self}
 use native.Mathlib.Omega.{arith}
 use lib.Dec.{leb}
 use borrow.Author.Needs.{needs}
 use borrow.Author.Tests.{lt-ltb, le-ltb, le-leb, lt-leb}
+use mir.Syntax.{w32}
+use mir.Val.{Fits}
 use Rattle.integers.proofs.Bits.{div-some, div-none}
 use Rattle.evc.specs.Tests.{outside}
 use Rattle.evc.proofs.Tests.{outside-no}
@@ -50,8 +52,12 @@ cast-sad c = omega (arith, allowed (c .before .before) .1)
 shr-sad : tie.Need-shr-sad
 shr-sad c = omega (arith, allowed (c .before .before) .1)
 
+-- whatever it is divided by: only the value tells
+quotient : (n d : ℕ) → n ≤ 4294967295 → Fits w32 (n / d)
+quotient n d h = omega (arith, div-le-self n d)
+
 cast-sad-2 : tie.Need-cast-sad-2
-cast-sad-2 c = let a = c .before .before .before .before .args in omega (arith, div-le-self (a .sum) (2 ^ (a .depth - 8)))
+cast-sad-2 c = quotient _ _ (omega arith)
 
 returns-4 : tie.Need-returns-4
 returns-4 c = let a = c .before .before .before .before .args in rw (deep (c .before .before), marked (c .before), le-ltb 4294967295 (a .sum) (c .if3 .left))

@@ -1,5 +1,5 @@
 -- `lower` meets its contract. Assumes nothing.
-use mathlib.Core.Path.{_≡_, ap, _∙_, subst₂}
+use mathlib.Core.Path.{ap, _∙_, subst₂}
 use lib.Signed.{_≤ℤ_}
 use mir.Facts.{toZ-ofZ}
 use Rattle.integers.proofs.Order.{<ℤ-≤ℤ}

@@ -1,7 +1,7 @@
 -- `near` meets its contract. Assumes nothing.
-use mathlib.Core.Path.{_≡_, sym, ap, ap₂, _∙_, subst, subst₂}
+use mathlib.Core.Path.{_≡_, sym, ap, ap₂, _∙_, subst}
 use mathlib.Core.List.{[], _∷_}
-use Prim.Native.Nat.{ℕ, _≤_, _%_, _^_}
+use Prim.Native.Nat.{ℕ, _≤_}
 use native.Mathlib.Omega.{arith}
 use lib.Bits.{bitAnd, and-le-r, and-mask}
 use lib.IntN.{ℤ, pos, natAbs, _-ℤ_}
@@ -11,7 +11,7 @@ use mir.Val.{SFits, toZ, ofZ}
 use mir.Facts.{toZ-ofZ}
 use Rattle.integers.proofs.Bound.{Within, within-sfits, sfits-within}
 use Rattle.integers.proofs.Order.{<ℤ-≤ℤ}
-use Rattle.integers.proofs.Bits.{back, lt-held, lt-failed}
+use Rattle.integers.proofs.Bits.{lt-held, lt-failed}
 use Rattle.integers.proofs.Expr.{Ex, Known, env, nat, var, lit, sub, loc, fit, reads, to-unsigned}
 use Rattle.integers.proofs.Parts.{sub-nonneg}
 use Rattle.sad.specs.Near.{raise, nearBi}

@@ -1,10 +1,8 @@
 -- `raised` meets its contract. Assumes nothing.
-use mathlib.Core.Path.{_≡_, refl, sym, ap, _∙_}
+use mathlib.Core.Path.{sym, ap, _∙_}
 use mathlib.Core.Bool.{Bool, cond}
 use lib.IntN.{ℤ, pos, negℤ}
 use lib.Signed.{ltZ}
-use mir.Syntax.{w16}
-use mir.Val.{SFits}
 use mir.Facts.{toZ-ofZ}
 use Rattle.sad.specs.Near.{raise}
 use Rattle.sad.proofs.bi.raised.Statement.{statement}

@@ -1,13 +1,12 @@
 -- `read_row` meets its contract. Assumes nothing.
-use mathlib.Core.Path.{_≡_, ap, _∙_}
-use Prim.Native.Nat.{ℕ, _+_}
+use mathlib.Core.Path.{ap, _∙_}
+use Prim.Native.Nat.{_+_}
 use borrow.Author.Needs.{needs}
 use lib.IntN.{ℤ, pos, _+ℤ_}
-use lib.ListN.{length, getD}
+use lib.ListN.{getD}
 use mir.Facts.{toZ-ofZ}
 use Rattle.integers.specs.Lists.{tab}
 use Rattle.evc.specs.Planes.{edge}
-use Rattle.sad.specs.Edges.{RowEdges}
 use Rattle.sad.proofs.edges.read_row.Statement.{statement}
 use Rattle.sad.proofs.edges.read_row.Tie as tie
 

@@ -1,10 +1,9 @@
 -- `ssd_row` meets its contract. Assumes nothing.
-use Prim.Native.Nat.{ℕ, _-_, _*_, _/_, _%_, _^_, _≤_}
+use Prim.Native.Nat.{ℕ, _-_, _*_, _/_, _^_, _≤_}
 use native.Mathlib.Omega.{arith}
 use mathlib.Core.Path.{_≡_, refl, ap, ap₂, _∙_}
 use mathlib.Core.List.{List}
-use native.Mathlib.Nat.{div-le-self}
-use lib.Bits.{bitAnd, bitOr}
+use lib.Bits.{bitOr}
 use lib.ListN.{getD}
 use lib.Pow.{pow-pos}
 use mir.Syntax.{w16}
@@ -12,7 +11,7 @@ use Rattle.integers.proofs.Bits.{one-shl}
 use Rattle.sad.specs.Totals.{apart, squared}
 use Rattle.sad.specs.Near.{squaredLow}
 use Rattle.sad.proofs.Near.{cut, cut-small, squared-low-le}
-use Rattle.sad.proofs.Running.{Running, running-start, running-step, running-end, running-next}
+use Rattle.sad.proofs.Running.{Running, running-start, running-step, running-end}
 use borrow.Author.Needs.{needs}
 use Rattle.sad.proofs.rows.ssd_row.Statement.{statement}
 use Rattle.sad.proofs.rows.ssd_row.Tie as tie

@@ -1,6 +1,6 @@
 -- `of_blocks` meets its contract. Assumes nothing.
 use mathlib.Core.Path.{_≡_, refl, ap, _∙_}
-use Prim.Native.Nat.{ℕ, _*_, _-_, _^_, _<_}
+use Prim.Native.Nat.{_*_, _-_, _^_, _<_}
 use native.Mathlib.Omega.{arith}
 use lib.IntN.{pos}
 use lib.Bits.{bitOr}
