@@ -13,8 +13,8 @@ use Rattle.integers.proofs.Bits.{one-shl}
 use Rattle.integers.proofs.Every.{below, below-at}
 use Rattle.evc.specs.Stages.{stageOneTests, stageTwoTests}
 use Rattle.evc.proofs.Tests.{Unbroken, inside-no}
-use Rattle.itx.specs.Lines.{Rooms}
-use Rattle.itx.proofs.Lines.{rooms}
+use Rattle.halving.specs.Lines.{Rooms}
+use Rattle.halving.proofs.Lines.{rooms}
 use Rattle.blocks.specs.Blocks.{Wide}
 
 sixteens : T (below (λ k. eqb (2 ^ (4 + k) % 16) 0) 3)

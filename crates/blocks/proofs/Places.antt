@@ -8,8 +8,8 @@ use lib.ListN.{length, set, length-set}
 use lib.IntN.{ℤ}
 use Rattle.integers.specs.Lists.{written}
 use Rattle.integers.proofs.Written.{written-none, written-next, written-count, grid-at}
-use Rattle.itx.specs.Lines.{Next, Rooms}
-use Rattle.itx.proofs.Lines.{next-none}
+use Rattle.halving.specs.Lines.{Next, Rooms}
+use Rattle.halving.proofs.Lines.{next-none}
 use Rattle.blocks.specs.Blocks.{Room, Blocked}
 
 module _ {d₀ : List ℤ} {a : ℕ} {g : ℕ → ℤ} where

@@ -17,8 +17,8 @@ use Rattle.evc.specs.Table.{tm64, tm}
 use Rattle.evc.specs.Stages.{rounding, product, stageOneAt, stageTwoAt}
 use Rattle.table.specs.Columns.{column}
 use Rattle.table.proofs.ColumnSums.{column-within}
-use Rattle.itx.specs.Line.{dot}
-use Rattle.itx.proofs.Lines.{rounding-within}
+use Rattle.halving.specs.Line.{dot}
+use Rattle.halving.proofs.Lines.{rounding-within}
 use Rattle.levels.specs.Lanes.{lane, laneSum}
 use Rattle.blocks.specs.Blocks.{upper, rest, input, crossed, joined, Rows, Offsets}
 use Rattle.blocks.proofs.Halves.{halves}

@@ -9,7 +9,7 @@ use Rattle.integers.specs.Lists.{tab}
 use Rattle.evc.specs.Tests.{samplesOf}
 use Rattle.evc.specs.Stages.{rounding}
 use Rattle.table.specs.Columns.{column}
-use Rattle.itx.specs.Lines.{Next}
+use Rattle.halving.specs.Lines.{Next}
 
 -- ---- gathered
 -- the upper half of a number of 32 bits, and what is left less 32768: x = 65536 · upper x + rest x + 32768

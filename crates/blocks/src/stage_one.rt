@@ -8,7 +8,7 @@ ghost use Rattle.integers.specs.Lists.{written};
 ghost use Rattle.evc.specs.Answers.{answerNumber};
 ghost use Rattle.evc.specs.Table.{tm};
 ghost use Rattle.evc.specs.Stages.{stageOneAt, stageOneNumber, itxb0Exit};
-ghost use Rattle.itx.specs.Lines.{Rooms};
+ghost use Rattle.halving.specs.Lines.{Rooms};
 ghost use Rattle.blocks.specs.Blocks.{Room, Blocked};
 use super::gather::gather;
 use super::guard::wide;

@@ -9,7 +9,7 @@ ghost use Rattle.integers.specs.Lists.{written};
 ghost use Rattle.evc.specs.Answers.{answerNumber};
 ghost use Rattle.evc.specs.Table.{tm};
 ghost use Rattle.evc.specs.Stages.{stageTwoAt, stageTwoNumber, itxb1Exit};
-ghost use Rattle.itx.specs.Lines.{Rooms};
+ghost use Rattle.halving.specs.Lines.{Rooms};
 ghost use Rattle.blocks.specs.Blocks.{Offsets, Room, Blocked};
 use super::gather::highs;
 use super::gather::lows;

@@ -3,7 +3,7 @@ ghost use Prim.Native.Nat.{_+_, _*_, _<_, _≤_};
 ghost use lib.ListN.{length, getD};
 ghost use lib.IntN.{pos};
 ghost use Rattle.integers.specs.Z.{clip32};
-ghost use Rattle.itx.specs.Lines.{Next};
+ghost use Rattle.halving.specs.Lines.{Next};
 ghost use Rattle.blocks.specs.Blocks.{crossed};
 
 // The line of lane j, of n places, to place `a` of the output.

@@ -5,7 +5,7 @@ ghost use lib.ListN.{length, getD, set};
 ghost use lib.IntN.{pos, _+ℤ_, natAbs};
 ghost use Rattle.integers.specs.Lists.{tab};
 ghost use Rattle.evc.specs.Stages.{rounding};
-ghost use Rattle.itx.specs.Lines.{Next};
+ghost use Rattle.halving.specs.Lines.{Next};
 ghost use Rattle.blocks.specs.Blocks.{crossed, joined, Ready};
 
 // What stage two adds before it shifts: half of 2^shift, 0 for shift 0.

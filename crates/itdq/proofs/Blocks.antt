@@ -15,7 +15,7 @@ use Rattle.evc.specs.Dequantizer.{scale, dequantized, dquantExit}
 use Rattle.evc.specs.Stages.{itxb0Exit, itxb1Exit, stageOne}
 use Rattle.evc.specs.Jobs.{width, height, block}
 use Rattle.dquant.proofs.Calls.{dquant-whole}
-use Rattle.itx.proofs.Calls.{stage-one-whole, stage-two-whole}
+use Rattle.halving.proofs.Calls.{stage-one-whole, stage-two-whole}
 use Rattle.itdq.specs.Ranges.{Whole}
 
 -- an area has at most 4,096 samples

@@ -3,7 +3,7 @@
 ghost use mathlib.Core.Path.{_≡_};
 ghost use Prim.Native.Nat.{_*_, _<_, _≤_};
 ghost use lib.ListN.{length};
-ghost use Rattle.itx.specs.Lines.{Gathered};
+ghost use Rattle.halving.specs.Lines.{Gathered};
 
 // Line j of an input of 16 bits, as a list of n numbers.
 pub(crate) fn gather_i16(src: &[i16], x: &mut [i64], n: usize, l: usize, j: usize)

@@ -4,7 +4,7 @@
 ghost use mathlib.Core.Path.{_≡_};
 ghost use Prim.Native.Nat.{_+_, _<_};
 ghost use lib.ListN.{length};
-ghost use Rattle.itx.specs.Line.{rows, line, odd, Small, Term, Inputs, Table, Level, Sums, Part};
+ghost use Rattle.halving.specs.Line.{rows, line, odd, Small, Term, Inputs, Table, Level, Sums, Part};
 
 // A table's number times an input.
 fn term(t: &[i8], x: &[i64], at: usize, i: usize) -> i64

@@ -4,7 +4,7 @@ ghost use mathlib.Core.Path.{_≡_};
 ghost use lib.ListN.{length};
 ghost use Rattle.evc.specs.Table.{tm};
 ghost use Rattle.table.specs.Flat.{flat};
-ghost use Rattle.itx.specs.Line.{Inputs, Sums};
+ghost use Rattle.halving.specs.Line.{Inputs, Sums};
 use super::line::line2;
 use super::line::line4;
 use super::line::line8;

@@ -9,7 +9,7 @@ ghost use Rattle.evc.specs.Answers.{answerNumber};
 ghost use Rattle.evc.specs.Table.{tm};
 ghost use Rattle.evc.specs.Stages.{stageOneAt, stageOneNumber, itxb0Exit};
 ghost use Rattle.table.specs.Flat.{flat};
-ghost use Rattle.itx.specs.Lines.{Room, Rooms, Lined};
+ghost use Rattle.halving.specs.Lines.{Room, Rooms, Lined};
 use super::gather::gather_i16;
 use super::own::own2;
 use super::own::own4;

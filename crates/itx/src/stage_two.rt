@@ -9,7 +9,7 @@ ghost use Rattle.evc.specs.Answers.{answerNumber};
 ghost use Rattle.evc.specs.Table.{tm};
 ghost use Rattle.evc.specs.Stages.{stageTwoAt, stageTwoNumber, itxb1Exit};
 ghost use Rattle.table.specs.Flat.{flat};
-ghost use Rattle.itx.specs.Lines.{Amount, Room, Rooms, Lined};
+ghost use Rattle.halving.specs.Lines.{Amount, Room, Rooms, Lined};
 use super::gather::gather_i32;
 use super::own::own2;
 use super::own::own4;

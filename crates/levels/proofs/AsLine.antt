@@ -9,7 +9,7 @@ use lib.ListN.{length, getD, set, length-set}
 use lib.Seq.{getD-set-same, getD-set-other}
 use lib.IntN.{ℤ, pos}
 use Rattle.integers.proofs.Written.{tab-length, tab-at, tab-ext, is-tab}
-use Rattle.itx.specs.Line.{line}
+use Rattle.halving.specs.Line.{line}
 use Rattle.levels.specs.Lanes.{lane}
 use Rattle.levels.specs.Steps.{laneList, Kept}
 

@@ -10,8 +10,8 @@ use Rattle.integers.proofs.Bound.{Within, within-mul, within-mono}
 use Rattle.integers.proofs.Sum.{within-sum}
 use Rattle.table.specs.Flat.{flat}
 use Rattle.table.proofs.Rule.{entry, tm64-within}
-use Rattle.itx.specs.Line.{line, dot, odd}
-use Rattle.itx.proofs.Bounds.{multiple, odd-multiple}
+use Rattle.halving.specs.Line.{line, dot, odd}
+use Rattle.halving.proofs.Bounds.{multiple, odd-multiple}
 use Rattle.levels.specs.Steps.{laneList, T, half, Narrow, Within64, Halving}
 use Rattle.levels.proofs.AsLine.{lane-at}
 

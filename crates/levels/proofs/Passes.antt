@@ -14,8 +14,8 @@ use Rattle.integers.proofs.Sum.{sum-ext}
 use Rattle.integers.proofs.Written.{is-tab}
 use Rattle.evc.specs.Table.{tm64}
 use Rattle.table.proofs.Rule.{entry}
-use Rattle.itx.specs.Line.{line, dot, Part}
-use Rattle.itx.proofs.Bounds.{multiple}
+use Rattle.halving.specs.Line.{line, dot, Part}
+use Rattle.halving.proofs.Bounds.{multiple}
 use Rattle.levels.specs.Lanes.{lane, laneSum}
 use Rattle.levels.specs.Steps.{laneList, T, Halving, Kept, OfLane, Moved, All, Sized}
 use Rattle.levels.proofs.AsLine.{lane-at}

@@ -13,10 +13,10 @@ use Rattle.integers.specs.Lists.{tab}
 use Rattle.integers.proofs.Sum.{sum-none}
 use Rattle.integers.proofs.Written.{tab-length, tab-at}
 use Rattle.table.specs.Flat.{flat}
-use Rattle.itx.specs.Line.{line, rows, dot, odd, Inputs, Table, Level, Sums, Part}
-use Rattle.itx.proofs.Bounds.{odd-step, odd-multiple}
-use Rattle.itx.proofs.Step.{none, more, two}
-use Rattle.itx.proofs.Instance.{own-table}
+use Rattle.halving.specs.Line.{line, rows, dot, odd, Inputs, Table, Level, Sums, Part}
+use Rattle.halving.proofs.Bounds.{odd-step, odd-multiple}
+use Rattle.halving.proofs.Step.{none, more, two}
+use Rattle.halving.proofs.Instance.{own-table}
 use Rattle.levels.specs.Steps.{laneList, T, half, Narrow, Within64, Picked, Picks, More, Lane, Halving, OfLane, Ready, Kept, Moved, All, Sized}
 use Rattle.levels.proofs.AsLine.{lane-length, lane-at, lane-set, kept-set, kept-then}
 use Rattle.levels.proofs.Bounds.{term, entry-within, input-within, dot-within, half-within, most, stride}

@@ -5,7 +5,7 @@ use Prim.Native.Nat.{ℕ, _+_, _*_, _/_, _%_}
 use lib.ListN.{getD}
 use lib.IntN.{ℤ, pos}
 use Rattle.evc.specs.Table.{tm64}
-use Rattle.itx.specs.Line.{dot}
+use Rattle.halving.specs.Line.{dot}
 
 -- lane j of a block of 16 lanes a row: its number in row k
 abbrev pub lane : List ℤ → ℕ → ℕ → ℤ

@@ -8,7 +8,7 @@ use lib.ListN.{length, getD}
 use lib.IntN.{ℤ, pos, natAbs}
 use Rattle.integers.specs.Lists.{tab}
 use Rattle.table.specs.Flat.{flat}
-use Rattle.itx.specs.Line.{rows, line, odd, Sums, Part}
+use Rattle.halving.specs.Line.{rows, line, odd, Sums, Part}
 use Rattle.levels.specs.Lanes.{lane}
 
 -- lane j as a list

@@ -3,7 +3,7 @@ ghost use mathlib.Core.Path.{_≡_};
 ghost use Prim.Native.Nat.{_<_, _≤_};
 ghost use lib.ListN.{length};
 ghost use Rattle.table.specs.Flat.{flat};
-ghost use Rattle.itx.specs.Line.{line, dot};
+ghost use Rattle.halving.specs.Line.{line, dot};
 ghost use Rattle.levels.specs.Steps.{laneList, T, Narrow, OfLane, Moved, Sized};
 use super::lanes::put;
 use super::lanes::term;

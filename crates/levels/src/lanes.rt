@@ -2,7 +2,7 @@
 // Where a parameter is not read (`s`, `j`), the contract speaks of it; a compiler drops it.
 ghost use mathlib.Core.Path.{_≡_};
 ghost use Prim.Native.Nat.{suc, _+_, _*_, _<_};
-ghost use Rattle.itx.specs.Line.{line};
+ghost use Rattle.halving.specs.Line.{line};
 ghost use Rattle.levels.specs.Steps.{laneList, half, Within64, One, More, Picks, Ready, Moved};
 
 // The input of lane j in the row at the k-th odd multiple of q.

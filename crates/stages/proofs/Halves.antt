@@ -14,8 +14,8 @@ use Rattle.integers.proofs.Bound.{within-add, within-sub}
 use Rattle.integers.proofs.Sum.{sum-ext}
 use Rattle.evc.specs.Stages.{product}
 use Rattle.table.specs.Mirror.{Mirrored}
-use Rattle.itx.specs.Line.{rows, dot, odd}
-use Rattle.itx.proofs.Halving.{split, mirrored, whole}
+use Rattle.halving.specs.Line.{rows, dot, odd}
+use Rattle.halving.proofs.Halving.{split, mirrored, whole}
 use Rattle.stages.specs.Sums.{Reach, Product, Odd, Line}
 
 -- the even rows or inputs, at twice the stride

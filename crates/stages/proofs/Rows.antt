@@ -9,10 +9,10 @@ use Rattle.integers.specs.Sum.{ofZ+}
 use Rattle.integers.proofs.Sum.{sum-ext}
 use Rattle.integers.proofs.Written.{grid-at}
 use Rattle.evc.specs.Stages.{product}
-use Rattle.itx.specs.Line.{Table}
-use Rattle.itx.specs.Lines.{Bounded, Next, Room, Lined}
-use Rattle.itx.proofs.Instance.{Same}
-use Rattle.itx.proofs.Lines.{place, next-ext, left}
+use Rattle.halving.specs.Line.{Table}
+use Rattle.halving.specs.Lines.{Bounded, Next, Room, Lined}
+use Rattle.halving.proofs.Instance.{Same}
+use Rattle.halving.proofs.Lines.{place, next-ext, left}
 use Rattle.stages.specs.Sums.{Reach, Line}
 
 pub reach : {t x dst : List ℤ} (w N l j : ℕ) → Table t w N → Room x dst N l j → Reach t w x l j N

@@ -7,7 +7,7 @@ use lib.ListN.{length, getD}
 use lib.IntN.{ℤ, pos, _*ℤ_, natAbs}
 use Rattle.evc.specs.Tests.{samplesOf}
 use Rattle.evc.specs.Stages.{product}
-use Rattle.itx.specs.Line.{rows, odd}
+use Rattle.halving.specs.Line.{rows, odd}
 
 -- the largest product of a signed byte and an input of 16 bits, and of 32
 abbrev pub narrow : ℕ

@@ -8,7 +8,7 @@ ghost use Rattle.integers.specs.Lists.{written};
 ghost use Rattle.evc.specs.Answers.{answerNumber};
 ghost use Rattle.evc.specs.Table.{tm};
 ghost use Rattle.evc.specs.Stages.{stageOneAt, stageOneNumber, itxb0Exit};
-ghost use Rattle.itx.specs.Lines.{Room, Rooms, Lined};
+ghost use Rattle.halving.specs.Lines.{Room, Rooms, Lined};
 use super::guard::short;
 use super::narrow::line2;
 use super::narrow::line4;

@@ -8,7 +8,7 @@ ghost use Rattle.integers.specs.Lists.{written};
 ghost use Rattle.evc.specs.Answers.{answerNumber};
 ghost use Rattle.evc.specs.Table.{tm};
 ghost use Rattle.evc.specs.Stages.{stageTwoAt, stageTwoNumber, itxb1Exit};
-ghost use Rattle.itx.specs.Lines.{Amount, Room, Rooms, Lined};
+ghost use Rattle.halving.specs.Lines.{Amount, Room, Rooms, Lined};
 use super::guard::short;
 use super::store::rounding;
 use super::store::store_i16;

@@ -6,7 +6,7 @@ ghost use lib.ListN.{length, getD};
 ghost use lib.IntN.{pos, natAbs};
 ghost use Rattle.integers.specs.Z.{clip32};
 ghost use Rattle.evc.specs.Stages as stages;
-ghost use Rattle.itx.specs.Lines.{shifted, Amount, Bounded, Next};
+ghost use Rattle.halving.specs.Lines.{shifted, Amount, Bounded, Next};
 
 // Stage one: clipped to 32 bits.
 pub(crate) fn store_i32(y: &[i32], dst: &mut [i32], n: usize, j: usize)

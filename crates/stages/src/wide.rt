@@ -6,7 +6,7 @@
 ghost use Prim.Native.Nat.{_+_, _*_, _<_};
 ghost use lib.ListN.{length};
 ghost use Rattle.table.specs.Mirror.{Mirrored};
-ghost use Rattle.itx.specs.Line.{rows};
+ghost use Rattle.halving.specs.Line.{rows};
 ghost use Rattle.stages.specs.Sums.{wide, Reach, Product, Odd, Line};
 
 // Input k of line j times the table's number in row k, column n.

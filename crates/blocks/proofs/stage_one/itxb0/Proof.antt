@@ -6,7 +6,7 @@ use lib.ListN.{length}
 use Rattle.evc.specs.Table.{tm}
 use Rattle.evc.specs.Stages.{stageOneAt, stageOneTests, stageOneNumber, stageOneExit}
 use Rattle.evc.proofs.Tests.{accepted-end}
-use Rattle.itx.proofs.Lines.{stage-end}
+use Rattle.halving.proofs.Lines.{stage-end}
 use Rattle.blocks.specs.Blocks.{Wide}
 use Rattle.blocks.proofs.Calls.{lines, blocks, one-passed, wide-rooms}
 use Rattle.blocks.proofs.stage_one.itxb0.Statement.{statement}

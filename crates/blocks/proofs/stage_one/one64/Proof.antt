@@ -4,7 +4,7 @@ use mathlib.Core.Path.{refl, sym, ap, _∙_}
 use native.Mathlib.Omega.{arith}
 use lib.ListN.{length}
 use Rattle.integers.proofs.Written.{tab-length}
-use Rattle.itx.proofs.Lines.{next-ext}
+use Rattle.halving.proofs.Lines.{next-ext}
 use Rattle.blocks.proofs.Products.{crossed-sum, one-at}
 use Rattle.blocks.proofs.stage_one.one64.Statement.{statement}
 use Rattle.blocks.proofs.stage_one.one64.Tie as tie

@@ -3,7 +3,7 @@ use Prim.Native.Nat.{_*_, _-_, _^_, _≤_}
 use native.Mathlib.Omega.{arith}
 use Rattle.evc.specs.Table.{tm}
 use Rattle.evc.specs.Stages.{stageOneAt}
-use Rattle.itx.specs.Lines.{Next}
+use Rattle.halving.specs.Lines.{Next}
 use Rattle.blocks.proofs.Places.{block-none, block-word, block-room, block-more, block-all}
 use Rattle.blocks.proofs.stage_one.ones.Statement.{statement}
 use Rattle.blocks.proofs.stage_one.ones.Tie as tie

@@ -9,7 +9,7 @@ use Rattle.evc.specs.Table.{tm}
 use Rattle.evc.specs.Tests.{Test}
 use Rattle.evc.specs.Stages.{stageTwoAt, stageTwoTests, stageTwoNumber, stageTwoExit}
 use Rattle.evc.proofs.Tests.{accepted-end}
-use Rattle.itx.proofs.Lines.{stage-end}
+use Rattle.halving.proofs.Lines.{stage-end}
 use Rattle.blocks.specs.Blocks.{Wide}
 use Rattle.blocks.proofs.Calls.{lines, blocks, two-passed, wide-rooms, sized-rooms, sized-end}
 use Rattle.blocks.proofs.stage_two.itxb1.Statement.{statement}

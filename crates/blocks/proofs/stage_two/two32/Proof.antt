@@ -9,7 +9,7 @@ use lib.ListN.{length}
 use lib.IntN.{ℤ}
 use Rattle.integers.specs.Lists.{tab}
 use Rattle.integers.proofs.Written.{tab-length}
-use Rattle.itx.proofs.Lines.{next-ext}
+use Rattle.halving.proofs.Lines.{next-ext}
 use Rattle.blocks.proofs.Products.{crossed-sum, two-at, offset-at, offset-long, offset-small}
 use Rattle.blocks.proofs.stage_two.two32.Statement.{statement}
 use Rattle.blocks.proofs.stage_two.two32.Tie as tie

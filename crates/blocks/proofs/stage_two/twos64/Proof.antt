@@ -8,8 +8,8 @@ use mir.Facts.{toZ-ofZ}
 use Rattle.integers.proofs.Written.{tab-length}
 use Rattle.evc.specs.Table.{tm}
 use Rattle.evc.specs.Stages.{stageTwoAt}
-use Rattle.itx.specs.Lines.{Next}
-use Rattle.itx.proofs.Lines.{rounding-within}
+use Rattle.halving.specs.Lines.{Next}
+use Rattle.halving.proofs.Lines.{rounding-within}
 use Rattle.blocks.proofs.Places.{block-none, block-word, block-room, block-more, block-all}
 use Rattle.blocks.proofs.Products.{offsets-are}
 use Rattle.blocks.proofs.stage_two.twos64.Statement.{statement}

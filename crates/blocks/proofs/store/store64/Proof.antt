@@ -5,7 +5,7 @@ use native.Mathlib.Omega.{arith}
 use lib.ListN.{getD}
 use lib.IntN.{pos}
 use Rattle.integers.specs.Z.{clip32}
-use Rattle.itx.specs.Lines.{Next}
+use Rattle.halving.specs.Lines.{Next}
 use Rattle.blocks.specs.Blocks.{crossed}
 use Rattle.blocks.proofs.Places.{next-join, no-line, line-start, line-end, lane-place}
 use Rattle.blocks.proofs.store.store64.Statement.{statement}

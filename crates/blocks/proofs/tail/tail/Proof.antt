@@ -5,7 +5,7 @@ use Prim.Native.Nat.{ℕ, _+_, _*_, _-_, _%_, _≤_}
 use native.Mathlib.Omega.{arith}
 use lib.ListN.{getD}
 use lib.IntN.{ℤ, pos}
-use Rattle.itx.specs.Lines.{Next}
+use Rattle.halving.specs.Lines.{Next}
 use Rattle.blocks.specs.Blocks.{crossed, joined}
 use Rattle.blocks.proofs.Places.{next-join, no-line, line-start, line-end, line-room, line-word, lane-place}
 use Rattle.blocks.proofs.tail.tail.Statement.{statement}

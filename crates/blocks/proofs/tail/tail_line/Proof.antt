@@ -5,8 +5,8 @@ use Prim.Native.Nat.{ℕ, _+_, _*_, _-_, _≤_, _<_}
 use native.Mathlib.Omega.{arith}
 use lib.ListN.{length, getD}
 use lib.IntN.{ℤ, pos}
-use Rattle.itx.specs.Lines.{Next}
-use Rattle.itx.proofs.Lines.{next-none}
+use Rattle.halving.specs.Lines.{Next}
+use Rattle.halving.proofs.Lines.{next-none}
 use Rattle.blocks.specs.Blocks.{joined}
 use Rattle.blocks.proofs.Places.{next-put}
 use Rattle.blocks.proofs.tail.tail_line.Statement.{statement}

@@ -9,11 +9,11 @@ use lib.IntN.{ℤ, pos, _+ℤ_, _-ℤ_}
 use mir.Syntax.{w64}
 use Rattle.integers.proofs.Bound.{Within}
 use Rattle.integers.proofs.Expr.{var, add, sub, loc, Known, small, env, fit, reads}
-use Rattle.itx.specs.Line.{rows, line, dot, odd, Level}
-use Rattle.itx.proofs.Bounds.{half-size, odd-bound, even-bound}
-use Rattle.itx.proofs.Step.{place, more}
-use Rattle.itx.proofs.line.step.Statement.{statement}
-use Rattle.itx.proofs.line.step.Tie as tie
+use Rattle.halving.specs.Line.{rows, line, dot, odd, Level}
+use Rattle.halving.proofs.Bounds.{half-size, odd-bound, even-bound}
+use Rattle.halving.proofs.Step.{place, more}
+use Rattle.halving.proofs.line.step.Statement.{statement}
+use Rattle.halving.proofs.line.step.Tie as tie
 
 -- a place of the level is one of the buffer
 inside : (s : tie.Start) (i : ℕ) → i < s .args .m + s .args .m → i < length (s .args .e .now)

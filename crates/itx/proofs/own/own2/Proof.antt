@@ -1,9 +1,9 @@
 -- `itx::own::own2` meets its contract: document 01's table is an instance. Assumes nothing.
 use borrow.Author.Needs.{needs}
 use native.Mathlib.Omega.{arith}
-use Rattle.itx.proofs.Instance.{own-table, own-sums}
-use Rattle.itx.proofs.own.own2.Statement.{statement}
-use Rattle.itx.proofs.own.own2.Tie as tie
+use Rattle.halving.proofs.Instance.{own-table, own-sums}
+use Rattle.halving.proofs.own.own2.Statement.{statement}
+use Rattle.halving.proofs.own.own2.Tie as tie
 
 table-requires : tie.Need-table-requires
 table-requires c κs = search needs

@@ -12,11 +12,11 @@ use Rattle.evc.specs.Table.{tm}
 use Rattle.evc.specs.Tests.{Test, samplesOf}
 use Rattle.evc.specs.Stages.{stageOneAt, stageOneTests, stageOneNumber, stageOneExit}
 use Rattle.evc.proofs.Tests.{Unbroken, refused-at, accepted-end, inside-no}
-use Rattle.itx.specs.Lines.{Rooms}
-use Rattle.itx.proofs.Lines.{rooms, stage-end}
-use Rattle.itx.proofs.Calls.{below-one, above-six}
-use Rattle.itx.proofs.stage_one.itxb0.Statement.{statement}
-use Rattle.itx.proofs.stage_one.itxb0.Tie as tie
+use Rattle.halving.specs.Lines.{Rooms}
+use Rattle.halving.proofs.Lines.{rooms, stage-end}
+use Rattle.halving.proofs.Calls.{below-one, above-six}
+use Rattle.halving.proofs.stage_one.itxb0.Statement.{statement}
+use Rattle.halving.proofs.stage_one.itxb0.Tie as tie
 
 -- the call's tests
 abbrev tests : tie.Start → List Test

@@ -4,7 +4,7 @@ use Prim.Native.Nat.{_-_}
 use native.Mathlib.Omega.{arith}
 use lib.Dec.{lit≤}
 use lib.ListN.{length}
-use Rattle.itx.proofs.Step.{none, all}
+use Rattle.halving.proofs.Step.{none, all}
 use Rattle.levels.proofs.AsLine.{lane-length, kept-then}
 use Rattle.levels.proofs.Passes.{Places, Passed, passed-none, passed-more}
 use Rattle.levels.proofs.base.base.Statement.{statement}

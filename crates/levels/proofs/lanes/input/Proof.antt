@@ -8,7 +8,7 @@ use lib.ListN.{getD}
 use lib.IntN.{pos}
 use mir.Syntax.{w16, w32}
 use Rattle.integers.proofs.Expr.{var, loc, Known, arg, env, fit, reads}
-use Rattle.itx.specs.Line.{line}
+use Rattle.halving.specs.Line.{line}
 use Rattle.levels.specs.Steps.{laneList}
 use Rattle.levels.proofs.AsLine.{lane-at}
 use Rattle.levels.proofs.Bounds.{most}

@@ -2,7 +2,7 @@
 -- Assumes nothing.
 use mathlib.Core.Path.{refl, _∙_}
 use lib.Dec.{lit≤}
-use Rattle.itx.proofs.Step.{none, all}
+use Rattle.halving.proofs.Step.{none, all}
 use Rattle.levels.proofs.level8.level8.Statement.{statement}
 use Rattle.levels.proofs.level8.level8.Tie as tie
 

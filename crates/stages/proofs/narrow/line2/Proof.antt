@@ -8,7 +8,7 @@ use lib.IntN.{ℤ, pos, natAbs}
 use mir.Syntax.{w32}
 use Rattle.integers.proofs.Expr.{Ex, var, add, loc, Known, small, env, raw, machines, within, reads, fit}
 use Rattle.evc.specs.Stages.{product}
-use Rattle.itx.specs.Line.{rows}
+use Rattle.halving.specs.Line.{rows}
 use Rattle.stages.specs.Sums.{narrow, Product}
 use Rattle.stages.proofs.Halves.{two}
 use Rattle.stages.proofs.narrow.line2.Statement.{statement}

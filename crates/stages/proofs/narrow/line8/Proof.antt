@@ -8,7 +8,7 @@ use lib.ListN.{length, getD}
 use lib.IntN.{ℤ, pos, _+ℤ_, _-ℤ_}
 use mir.Syntax.{w32}
 use Rattle.integers.proofs.Expr.{Ex, var, add, sub, loc, Known, small, env, raw, machines, reads, fit}
-use Rattle.itx.specs.Line.{rows}
+use Rattle.halving.specs.Line.{rows}
 use Rattle.stages.specs.Sums.{narrow, Odd, Line}
 use Rattle.stages.proofs.Halves.{half-reach, joined}
 use Rattle.stages.proofs.narrow.line8.Statement.{statement}

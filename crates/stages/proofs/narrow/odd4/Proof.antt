@@ -7,7 +7,7 @@ use lib.ListN.{length}
 use lib.IntN.{ℤ, natAbs}
 use mir.Syntax.{w32}
 use Rattle.integers.proofs.Expr.{Ex, var, add, loc, Known, small, env, within, reads, fit}
-use Rattle.itx.specs.Line.{rows}
+use Rattle.halving.specs.Line.{rows}
 use Rattle.stages.specs.Sums.{narrow, Product}
 use Rattle.stages.proofs.Halves.{odd-four}
 use Rattle.stages.proofs.narrow.odd4.Statement.{statement}

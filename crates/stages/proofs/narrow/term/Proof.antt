@@ -6,7 +6,7 @@ use Prim.Native.Nat.{ℕ, _≤_}
 use lib.IntN.{ℤ, natAbs}
 use mir.Syntax.{w8, w16, w32}
 use Rattle.integers.proofs.Expr.{var, mul, loc, Known, arg, env, within, reads, fit}
-use Rattle.itx.specs.Line.{rows}
+use Rattle.halving.specs.Line.{rows}
 use Rattle.stages.specs.Sums.{narrow}
 use Rattle.stages.proofs.narrow.term.Statement.{statement}
 use Rattle.stages.proofs.narrow.term.Tie as tie

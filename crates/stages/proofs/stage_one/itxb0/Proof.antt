@@ -14,8 +14,8 @@ use Rattle.evc.specs.Table.{tm}
 use Rattle.evc.specs.Tests.{Test, samplesOf}
 use Rattle.evc.specs.Stages.{stageOneAt, stageOneTests, stageOneNumber, stageOneExit}
 use Rattle.evc.proofs.Tests.{Unbroken, accepted-end, inside-no}
-use Rattle.itx.specs.Lines.{Rooms}
-use Rattle.itx.proofs.Lines.{rooms, stage-end}
+use Rattle.halving.specs.Lines.{Rooms}
+use Rattle.halving.proofs.Lines.{rooms, stage-end}
 use Rattle.stages.specs.Sums.{Short}
 use Rattle.stages.proofs.stage_one.itxb0.Statement.{statement}
 use Rattle.stages.proofs.stage_one.itxb0.Tie as tie

@@ -5,8 +5,8 @@ use native.Mathlib.Omega.{arith}
 use Rattle.integers.specs.Z.{clip32}
 use Rattle.evc.specs.Table.{tm}
 use Rattle.evc.specs.Stages.{stageOneAt}
-use Rattle.itx.specs.Line.{rows}
-use Rattle.itx.proofs.Instance.{own-table, own-same}
+use Rattle.halving.specs.Line.{rows}
+use Rattle.halving.proofs.Instance.{own-table, own-same}
 use Rattle.stages.specs.Sums.{narrow}
 use Rattle.stages.proofs.Rows.{reach, rowed}
 use Rattle.stages.proofs.stage_one.row4.Statement.{statement}

@@ -6,7 +6,7 @@ use lib.IntN.{ℤ}
 use Rattle.integers.specs.Lists.{written}
 use Rattle.evc.specs.Table.{tm}
 use Rattle.evc.specs.Stages.{stageOneAt}
-use Rattle.itx.proofs.Lines.{room-of, lines-none, lines-more, lines-length, lines-all}
+use Rattle.halving.proofs.Lines.{room-of, lines-none, lines-more, lines-length, lines-all}
 use Rattle.stages.proofs.stage_one.rows4.Statement.{statement}
 use Rattle.stages.proofs.stage_one.rows4.Tie as tie
 

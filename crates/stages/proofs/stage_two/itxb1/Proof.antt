@@ -16,8 +16,8 @@ use Rattle.evc.specs.Table.{tm}
 use Rattle.evc.specs.Tests.{Test, samplesOf}
 use Rattle.evc.specs.Stages.{stageTwoAt, stageTwoTests, stageTwoNumber, stageTwoExit}
 use Rattle.evc.proofs.Tests.{Unbroken, accepted-end, inside-no}
-use Rattle.itx.specs.Lines.{Amount, Rooms}
-use Rattle.itx.proofs.Lines.{rooms, stage-end}
+use Rattle.halving.specs.Lines.{Amount, Rooms}
+use Rattle.halving.proofs.Lines.{rooms, stage-end}
 use Rattle.stages.specs.Sums.{Short}
 use Rattle.stages.proofs.stage_two.itxb1.Statement.{statement}
 use Rattle.stages.proofs.stage_two.itxb1.Tie as tie

@@ -5,9 +5,9 @@ use native.Mathlib.Omega.{arith}
 use mir.Facts.{toZ-ofZ}
 use Rattle.evc.specs.Table.{tm}
 use Rattle.evc.specs.Stages.{stageTwoAt}
-use Rattle.itx.specs.Line.{rows}
-use Rattle.itx.specs.Lines.{shifted}
-use Rattle.itx.proofs.Instance.{own-table, own-same}
+use Rattle.halving.specs.Line.{rows}
+use Rattle.halving.specs.Lines.{shifted}
+use Rattle.halving.proofs.Instance.{own-table, own-same}
 use Rattle.stages.specs.Sums.{wide}
 use Rattle.stages.proofs.Rows.{reach, rowed, bounded}
 use Rattle.stages.proofs.stage_two.row8.Statement.{statement}

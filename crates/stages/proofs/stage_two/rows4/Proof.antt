@@ -7,7 +7,7 @@ use mir.Facts.{toZ-ofZ}
 use Rattle.integers.specs.Lists.{written}
 use Rattle.evc.specs.Table.{tm}
 use Rattle.evc.specs.Stages.{stageTwoAt}
-use Rattle.itx.proofs.Lines.{room-of, lines-none, lines-more, lines-length, lines-all}
+use Rattle.halving.proofs.Lines.{room-of, lines-none, lines-more, lines-length, lines-all}
 use Rattle.stages.proofs.stage_two.rows4.Statement.{statement}
 use Rattle.stages.proofs.stage_two.rows4.Tie as tie
 

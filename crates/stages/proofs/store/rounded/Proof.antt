@@ -10,7 +10,7 @@ use mir.Facts.{toZ-ofZ}
 use Rattle.integers.specs.Z.{clip16}
 use Rattle.integers.proofs.Bound.{Within}
 use Rattle.integers.proofs.Expr.{var, add, shr, loc, Known, small, env, fit, reads}
-use Rattle.itx.proofs.Lines.{rounding-within}
+use Rattle.halving.proofs.Lines.{rounding-within}
 use Rattle.stages.proofs.store.rounded.Statement.{statement}
 use Rattle.stages.proofs.store.rounded.Tie as tie
 

@@ -8,8 +8,8 @@ use lib.IntN.{pos}
 use mir.Syntax.{w16, w64}
 use mir.Val.{SFits, toZ, ofZ}
 use mir.Facts.{toZ-ofZ}
-use Rattle.itx.specs.Lines.{shifted, Next}
-use Rattle.itx.proofs.Lines.{next-none, next-more}
+use Rattle.halving.specs.Lines.{shifted, Next}
+use Rattle.halving.proofs.Lines.{next-none, next-more}
 use Rattle.stages.proofs.store.store_i16.Statement.{statement}
 use Rattle.stages.proofs.store.store_i16.Tie as tie
 

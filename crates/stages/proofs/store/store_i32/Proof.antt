@@ -11,8 +11,8 @@ use mir.Val.{toZ, ofZ}
 use mir.Facts.{toZ-ofZ}
 use Rattle.integers.specs.Z.{clip32}
 use Rattle.integers.proofs.Expr.{var, loc, Known, arg, env, fit, reads}
-use Rattle.itx.specs.Lines.{Next}
-use Rattle.itx.proofs.Lines.{next-none, next-more}
+use Rattle.halving.specs.Lines.{Next}
+use Rattle.halving.proofs.Lines.{next-none, next-more}
 use Rattle.stages.proofs.store.store_i32.Statement.{statement}
 use Rattle.stages.proofs.store.store_i32.Tie as tie
 

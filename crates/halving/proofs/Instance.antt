@@ -18,9 +18,9 @@ use Rattle.table.specs.Flat.{flat}
 use Rattle.table.specs.Mirror.{Mirrored}
 use Rattle.table.proofs.Rule.{entry, tm64-within}
 use Rattle.table.proofs.Mirror.{tm-mirrored}
-use Rattle.itx.specs.Line.{rows, line, dot, Inputs, Table, Sums}
-use Rattle.itx.specs.Lines.{Bounded}
-use Rattle.itx.proofs.Bounds.{term, multiple, odd-multiple}
+use Rattle.halving.specs.Line.{rows, line, dot, Inputs, Table, Sums}
+use Rattle.halving.specs.Lines.{Bounded}
+use Rattle.halving.proofs.Bounds.{term, multiple, odd-multiple}
 
 -- T and U are the same N by N table
 abbrev pub Same : ℕ → (ℕ → ℕ → ℤ) → (ℕ → ℕ → ℤ) → Type 0

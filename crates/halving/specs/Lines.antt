@@ -8,7 +8,7 @@ use lib.IntN.{ℤ, pos, _+ℤ_, natAbs}
 use Rattle.integers.specs.Z.{floorPow, clip16}
 use Rattle.integers.specs.Lists.{written}
 use Rattle.evc.specs.Stages.{rounding}
-use Rattle.itx.specs.Line.{line}
+use Rattle.halving.specs.Line.{line}
 
 -- x, of n places, holds the first k inputs of line j of l, each of 32 bits
 pub record Gathered (x src : List ℤ) (n k l j : ℕ) : Type 0 where

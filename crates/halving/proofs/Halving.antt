@@ -8,7 +8,7 @@ use Rattle.integers.specs.Sum.{ofZ+, sumZ}
 use Rattle.integers.proofs.Ring.{neg-*ℤ}
 use Rattle.integers.proofs.Sum.{sum-ext, sum-halves, sum-neg}
 use Rattle.table.specs.Mirror.{Mirrored}
-use Rattle.itx.specs.Line.{dot, odd}
+use Rattle.halving.specs.Line.{dot, odd}
 
 twice : (k q : ℕ) → (k + k) * q ≡ k * (q + q)
 twice k q = add-mul k k q ∙ sym (mul-add k q q)

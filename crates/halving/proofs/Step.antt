@@ -10,8 +10,8 @@ use lib.ListN.{length, getD, set, length-set}
 use lib.Seq.{getD-set-same, getD-set-other}
 use lib.IntN.{ℤ, pos, _+ℤ_, _-ℤ_, _*ℤ_, +ℤ-idl}
 use Rattle.integers.specs.Sum.{sum}
-use Rattle.itx.specs.Line.{line, rows, dot, odd, Level, Sums, Part}
-use Rattle.itx.proofs.Halving.{split, mirrored}
+use Rattle.halving.specs.Line.{line, rows, dot, odd, Level, Sums, Part}
+use Rattle.halving.proofs.Halving.{split, mirrored}
 
 module _ {e x : List ℤ} {T : ℕ → ℕ → ℤ} {q m : ℕ} where
   pub none : Sums e T (q + q) m x → Part e T q m 0 x

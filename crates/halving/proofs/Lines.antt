@@ -17,9 +17,9 @@ use Rattle.integers.proofs.Every.{below, below-at}
 use Rattle.integers.specs.Sum.{ofZ+}
 use Rattle.integers.proofs.Sum.{sum-ext}
 use Rattle.evc.specs.Stages.{product, rounding}
-use Rattle.itx.specs.Line.{line, Inputs, Sums}
-use Rattle.itx.specs.Lines.{Gathered, Next, Room, Rooms, Lined}
-use Rattle.itx.proofs.Halving.{whole}
+use Rattle.halving.specs.Line.{line, Inputs, Sums}
+use Rattle.halving.specs.Lines.{Gathered, Next, Room, Rooms, Lined}
+use Rattle.halving.proofs.Halving.{whole}
 
 -- place k·l + j of n·l places
 pub place : (k l j n H : ℕ) → k < n → j < l → n * l ≤ H → k * l + j < H

@@ -10,7 +10,7 @@ use lib.IntN.{ℤ, _+ℤ_, _*ℤ_}
 use Rattle.integers.specs.Sum.{ofZ+}
 use Rattle.integers.proofs.Bound.{Within, within-mul, within-mono}
 use Rattle.integers.proofs.Sum.{sum-step, within-sum}
-use Rattle.itx.specs.Line.{rows, line, dot, odd, Inputs, Table, Level}
+use Rattle.halving.specs.Line.{rows, line, dot, odd, Inputs, Table, Level}
 
 -- the bound on a term
 abbrev pub term : ℕ
