@@ -83,11 +83,3 @@ inside-no lo hi x a b = rw (le-ltb x lo a, le-ltb hi x b)
 pub reply-number : {A : Type 0} (n : ℕ) (v : A) → replyNumber (reply n v) ≡ n
 reply-number zero v = refl
 reply-number (suc n) v = refl
-
--- as a call's code ends: with a refusal, or with the value
-pub reply-refused : {A : Type 0} (r : Refusal) (n : ℕ) (v : A) → number r ≡ n → refused (number r) ≡ reply n v
-reply-refused r zero v e = absurd (omega (arith, number-some r))
-reply-refused r (suc n) v e = ap refused e
-
-pub reply-value : {A : Type 0} (n : ℕ) (v : A) → n ≡ 0 → value v ≡ reply n v
-reply-value n v e = rw e

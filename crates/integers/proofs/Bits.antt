@@ -44,9 +44,6 @@ lt-held x y e = ltZ-yes (passed e)
 pub lt-failed : (x y : ℤ) → ltZ x y ≡ false → y ≤ℤ x
 lt-failed x y e = ltZ-no (failed e)
 
-pub le-held : (x y : ℤ) → leZ x y ≡ true → x ≤ℤ y
-le-held x y e = leZ-yes (passed e)
-
 -- `1 << k` below the width is 2^k
 pub one-shl : (w : Width) (k : ℕ) → k < bits w → (1 * 2 ^ k) % 2 ^ bits w ≡ 2 ^ k
 one-shl w k h = let e : 1 * 2 ^ k ≡ 2 ^ k = omega arith in rw e (mod-eq-of-lt (pow-lt h))

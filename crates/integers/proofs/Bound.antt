@@ -56,20 +56,6 @@ within-mono p h = record { bound = le-trans (h .bound) p }
 pub within-pos : (n : ℕ) → Within n (pos n)
 within-pos n = record { bound = omega arith }
 
--- the difference of two numbers, neither negative, is within what both are
-pub within-dif : {n a b : ℕ} → a ≤ n → b ≤ n → Within n (pos a -ℤ pos b)
-within-dif {n} {a} {b} h k = record { bound = at (pos a -ℤ pos b) (dif-of (pos a) (pos b) (of-pos a) (of-pos b)) }
-  where
-    dif-of : (x y : ℤ) → x ≡ dif a 0 → y ≡ dif b 0 → x -ℤ y ≡ dif a b
-    dif-of x y p q = rw (p, q) (simp difs (dif-eq _ _ _ _ (omega arith)))
-
-    small : (z : ℤ) → up z + b ≡ a + dn z → natAbs z ≤ n
-    small (pos m) e = omega arith
-    small (negsuc m) e = omega arith
-
-    at : (z : ℤ) → z ≡ dif a b → natAbs z ≤ n
-    at z e = rw e (small (dif a b) (dif-part a b))
-
 -- a constant is within its own absolute value
 pub within-const : (z : ℤ) → Within (natAbs z) z
 within-const z = record { bound = omega arith }

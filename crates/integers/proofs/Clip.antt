@@ -92,12 +92,6 @@ clip-fits w lo hi x a b h = between-sfits w lo hi (clip lo hi x) a b (clip-above
 pub clip16-fits : (z : ℤ) → SFits w16 (clip16 z)
 clip16-fits z = clip-fits w16 (negsuc 32767) (pos 32767) z (sfits-lit tt) (sfits-lit tt) (leZ-yes tt)
 
-pub clip32-fits : (z : ℤ) → SFits w32 (clip32 z)
-clip32-fits z = clip-fits w32 (negsuc 2147483647) (pos 2147483647) z (sfits-lit tt) (sfits-lit tt) (leZ-yes tt)
-
-pub clip16-id : (z : ℤ) → SFits w16 z → clip16 z ≡ z
-clip16-id z h = let p = sfits-parts h in clip-id (negsuc 32767) (pos 32767) z (nat-≤ (omega arith)) (nat-≤ (omega arith))
-
 pub clip32-id : (z : ℤ) → SFits w32 z → clip32 z ≡ z
 clip32-id z h = let p = sfits-parts h in clip-id (negsuc 2147483647) (pos 2147483647) z (nat-≤ (omega arith)) (nat-≤ (omega arith))
 

@@ -43,22 +43,3 @@ floor-above z k = above z (2 ^ k) (pow-pos k)
 pub floor-unique : (q z : ℤ) (k : ℕ) → (q *ℤ pos (2 ^ k)) ≤ℤ z → z <ℤ ((q +ℤ pos 1) *ℤ pos (2 ^ k)) → q ≡ floorPow z k
 floor-unique q z k h j =
     ≤ℤ-antisym (close q (floorPow z k) z (2 ^ k) h (floor-above z k)) (close (floorPow z k) q z (2 ^ k) (floor-below z k) j)
-
-pub floor-mono : (x y : ℤ) (k : ℕ) → x ≤ℤ y → floorPow x k ≤ℤ floorPow y k
-floor-mono x y k h = close (floorPow x k) (floorPow y k) y (2 ^ k) (≤ℤ-trans (floor-below x k) h) (floor-above y k)
-
-pub floor-add : (z q : ℤ) (k : ℕ) → floorPow (z +ℤ q *ℤ pos (2 ^ k)) k ≡ floorPow z k +ℤ q
-floor-add z q k =
-    sym (floor-unique (floorPow z k +ℤ q) (z +ℤ q *ℤ pos (2 ^ k)) k (low (floorPow z k) (2 ^ k) (floor-below z k)) (high (floorPow z k) (2 ^ k) (floor-above z k)))
-  where
-    low : (s : ℤ) (m : ℕ) → (s *ℤ pos m) ≤ℤ z → ((s +ℤ q) *ℤ pos m) ≤ℤ (z +ℤ q *ℤ pos m)
-    low s m h =
-        let h′ : (dif (up s) (dn s) *ℤ dif m 0) ≤ℤ dif (up z) (dn z) = rw (of s, of z, of-pos m) at h in
-        let a = ≤-dif _ _ _ _ (simp difs at h′) in
-        rw (of s, of z, of q, of-pos m) (simp difs (dif-≤ _ _ _ _ (omega arith)))
-
-    high : (s : ℤ) (m : ℕ) → z <ℤ ((s +ℤ pos 1) *ℤ pos m) → (z +ℤ q *ℤ pos m) <ℤ ((s +ℤ q +ℤ pos 1) *ℤ pos m)
-    high s m h =
-        let h′ : dif (up z) (dn z) <ℤ ((dif (up s) (dn s) +ℤ dif 1 0) *ℤ dif m 0) = rw (of s, of z, of-pos m, of-pos 1) at h in
-        let a = <-dif _ _ _ _ (simp difs at h′) in
-        rw (of s, of z, of q, of-pos m, of-pos 1) (simp difs (dif-< _ _ _ _ (omega arith)))

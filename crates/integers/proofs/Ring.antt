@@ -17,8 +17,5 @@ pub *ℤ-distr : (x y z : ℤ) → (x +ℤ y) *ℤ z ≡ x *ℤ z +ℤ y *ℤ z
 pub neg-*ℤ : (x y : ℤ) → negℤ x *ℤ y ≡ negℤ (x *ℤ y)
 neg-*ℤ x y = rw (of x, of y) (simp difs (dif-eq _ _ _ _ (omega arith)))
 
-pub *ℤ-neg : (x y : ℤ) → x *ℤ negℤ y ≡ negℤ (x *ℤ y)
-*ℤ-neg x y = rw (of x, of y) (simp difs (dif-eq _ _ _ _ (omega arith)))
-
 pub one-*ℤ : (x : ℤ) → pos 1 *ℤ x ≡ x
 one-*ℤ x = rw (of x, of-pos 1) (simp difs (dif-eq _ _ _ _ (omega arith)))

@@ -135,12 +135,6 @@ module _ {A : Type 0} (d : A) where
   gather-put b (p ∷ ps) (v ∷ vs) u w l =
       rw (put-outside (set b p v) ps vs p (u .0), getD-set-same b p v d (w .0), gather-put (set b p v) ps vs (u .1) (rw length-set (w .1)) (omega arith))
 
-  -- so what stood there before does not matter
-  pub put-inside : (b c : List A) (ps : List ℕ) (vs : List A) → length b ≡ length c → Distinct ps → Below (length b) ps → length vs ≡ length ps
-      → (p : ℕ) → has ps p ≡ true → getD (put b ps vs) p d ≡ getD (put c ps vs) p d
-  put-inside b c ps vs e u w l =
-      gather-at (put b ps vs) (put c ps vs) ps (gather-put b ps vs u w l ∙ sym (gather-put c ps vs u (rw e at w) l))
-
 -- ---- what two lists share
 pub shared-has : (ps qs : List ℕ) (p : ℕ) → has (shared ps qs) p ≡ (has ps p && has qs p)
 shared-has [] qs p = refl
@@ -169,12 +163,6 @@ shared-ascending (p ∷ ps) qs u = go (has qs p) (shared-ascending ps qs (ascend
     go true v = ascending-cons p (shared ps qs) (λ q h. ascending-head p ps u q (shared-both ps qs q h .0)) v
     go false v = v
 
--- of ascending lists it does not matter which comes first
-pub shared-comm : (ps qs : List ℕ) → Ascending ps → Ascending qs → shared ps qs ≡ shared qs ps
-shared-comm ps qs u v =
-    ascending-same (shared ps qs) (shared qs ps) (shared-ascending ps qs u) (shared-ascending qs ps v)
-    (λ p. shared-has ps qs p ∙ and-comm (has ps p) (has qs p) ∙ sym (shared-has qs ps p))
-
 pub has-none : (ps : List ℕ) → ((p : ℕ) → has ps p ≡ true → ⊥) → ps ≡ []
 has-none [] h = refl
 has-none (p ∷ ps) h = absurd (h p (has-head p ps))
@@ -185,12 +173,6 @@ shared-none ps qs = (
   λ e p h g. not-both (both-shared ps qs p h g) (ap (λ l. has l p) e),
   λ h. has-none (shared ps qs) (λ p t. let w = shared-both ps qs p t in h p (w .0) (w .1)),
 )
-
-pub shared-none-sym : (ps qs : List ℕ) → shared ps qs ≡ [] → shared qs ps ≡ []
-shared-none-sym ps qs e = shared-none qs ps .1 (λ p h g. shared-none ps qs .0 e p g h)
-
-pub shared-nil : (ps : List ℕ) → shared ps [] ≡ []
-shared-nil ps = shared-none ps [] .1 (λ p h g. false≢true g)
 
 pub shared-none-append : (ps qs rs : List ℕ) → (shared ps (qs ++ rs) ≡ []) ↔ ((shared ps qs ≡ []) × (shared ps rs ≡ []))
 shared-none-append ps qs rs = (
