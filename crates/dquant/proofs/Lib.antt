@@ -1,2 +1,3 @@
--- The laws that callers of the dequantizer cite.
+-- Laws of this crate's own loop, and what a caller cites.
+pub mod Fours
 pub mod Calls

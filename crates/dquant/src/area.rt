@@ -1,5 +1,5 @@
-// The body of the Rust's `evc_dquant`: one coefficient, and the loop. Document 01, "Scale and dequantization".
-// Differs from the Rust in: the loop is given its area, no more of the buffer.
+// The body of the Rust's `evc_dquant`: one coefficient, and the loops. Document 01, "Scale and dequantization".
+// Differs from the Rust in: the loops are given their area, no more of the buffer.
 ghost use Prim.Native.Nat.{_≤_};
 ghost use mathlib.Core.Path.{_≡_};
 ghost use mathlib.Core.List.{map};
@@ -14,12 +14,26 @@ pub(crate) fn one(v: i16, scale: i32, offset: i32, shift: u8) -> i16
     integers::clip16(sum >> shift)
 }
 
-// Each coefficient of an area.
-pub(crate) fn each(area: &mut [i16], scale: i32, offset: i32, shift: u8)
+// Each of a run of coefficients.
+fn run(area: &mut [i16], scale: i32, offset: i32, shift: u8)
     requires { ⌜ shift ≤ 31 ⌝ }
     ensures { λ _. ⌜ now (area .exit) ≡ map (dequantized scale offset shift) (now (area .entry)) ⌝ }
 {
     for i in 0..area.len() {
         area[i] = one(area[i], scale, offset, shift);
+    }
+}
+
+// Each coefficient of an area. An area with a number of fours, as every larger one has, goes four at a time: so the loop's own steps cost less.
+pub(crate) fn each(area: &mut [i16], scale: i32, offset: i32, shift: u8)
+    requires { ⌜ shift ≤ 31 ⌝ }
+    ensures { λ _. ⌜ now (area .exit) ≡ map (dequantized scale offset shift) (now (area .entry)) ⌝ }
+{
+    if area.len() % 4 != 0 {
+        run(&mut area[..], scale, offset, shift);
+    } else {
+        for i in 0..area.len() / 4 {
+            run(&mut area[i * 4..i * 4 + 4], scale, offset, shift);
+        }
     }
 }

@@ -6,8 +6,6 @@ ghost use lib.ListN.{length};
 ghost use Rattle.evc.specs.Answers.{answerNumber};
 ghost use Rattle.evc.specs.Jobs.{jobNumber, jobExit};
 use crate::block::transform;
-use crate::tests::job_tests;
-use crate::tests::samples;
 use evc::Answer;
 use evc::Job;
 
@@ -15,10 +13,10 @@ pub fn evc_itdq_job(coef: &mut [i16], job: Job) -> Answer
     ensures answer { λ r. ⌜ answerNumber r ≡ jobNumber (length (now (coef .entry))) job ⌝ }
     ensures exit { λ r. ⌜ now (coef .exit) ≡ jobExit job (now (coef .entry)) ⌝ }
 {
-    let answer = job_tests(coef.len(), job);
+    let answer = refusals::job(coef.len(), job);
     if let Answer::Done = answer {
         let start = job.start;
-        let end = start + samples(job.logw, job.logh);
+        let end = start + (1usize << (job.logw + job.logh));
         transform(&mut coef[start..end], job);
     }
     answer

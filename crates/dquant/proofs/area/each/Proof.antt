@@ -1,43 +1,59 @@
--- `dquant::area::each` meets its contract. The invariant: the area is the entry's with its first i places done. Assumes nothing.
-use mathlib.Core.Path.{_≡_, ap, _∙_}
-use Prim.Native.Nat.{_≤_, _-_}
+-- `dquant::area::each` meets its contract. The invariant: the area is the entry's with its first i fours done. Assumes nothing.
+use mathlib.Core.Path.{_≡_}
+use Prim.Native.Nat.{_-_, _*_, _+_, _/_, _≤_}
 use native.Mathlib.Omega.{arith}
 use lib.IntN.{pos}
-use lib.ListN.{length, getD, length-set}
-use mir.Syntax.{w16, w32}
+use lib.ListN.{length, getD}
+use mir.Syntax.{w32}
 use mir.Val.{toZ, ofZ}
 use mir.Facts.{toZ-ofZ}
-use Rattle.integers.specs.Lists.{written}
-use Rattle.integers.proofs.Bits.{back}
-use Rattle.integers.proofs.Written.{written-none, written-step, written-read, written-map}
+use Rattle.integers.proofs.Grid.{Wrote, wrote-start, wrote-row, wrote-long, row-room}
 use Rattle.evc.specs.Dequantizer.{dequantized}
+use Rattle.dquant.proofs.Fours.{four, fours-end}
+use borrow.Author.Needs.{needs}
 use Rattle.dquant.proofs.area.each.Statement.{statement}
 use Rattle.dquant.proofs.area.each.Tie as tie
 
 abbrev Inv-loop : tie.InvT-loop
 Inv-loop area₀ scale offset shift i₀ i-end area i =
-    (i ≤ length area₀) × ((length area ≡ length area₀) × (area ≡ written i (λ k. dequantized (toZ w32 scale) (toZ w32 offset) shift (getD area₀ k (pos 0))) area₀))
+    Wrote 4 (length area₀ / 4) (λ k. dequantized (toZ w32 scale) (toZ w32 offset) shift (getD area₀ k (pos 0))) area₀ area i
 
 abbrev μ-loop : tie.MeasureT-loop
 μ-loop area₀ scale offset shift i₀ i-end area i = i-end - i
 
+run-requires : tie.Need-run-requires Inv-loop μ-loop
+run-requires c κs = search needs
+
 loop-holds : tie.Need-loop-holds Inv-loop μ-loop
-loop-holds c = (omega arith, (omega arith, written-none _ _))
+loop-holds c = wrote-start (omega arith)
 
-mul-one : tie.Need-mul-one Inv-loop μ-loop
-mul-one c = omega arith
+-- the next four has room
+room : (c : tie.In-loop Inv-loop μ-loop) → c .before .loop .i * 4 + 4 ≤ length (c .before .loop .area)
+room c = row-room (c .before .loop .inv) (c .loop-test .taken)
 
-slice-copy-out-one : tie.Need-slice-copy-out-one Inv-loop μ-loop
-slice-copy-out-one c = omega arith
+mul-run : tie.Need-mul-run Inv-loop μ-loop
+mul-run c = omega (arith, room c, wrote-long (c .before .loop .inv), c .before .before .before .good)
 
-one-requires : tie.Need-one-requires Inv-loop μ-loop
-one-requires c κs = omega arith
+mul-run-2 : tie.Need-mul-run-2 Inv-loop μ-loop
+mul-run-2 c = omega (arith, room c, wrote-long (c .before .loop .inv), c .before .before .before .good)
 
-mul-t12 : tie.Need-mul-t12 Inv-loop μ-loop
-mul-t12 c = omega arith
+add-run : tie.Need-add-run Inv-loop μ-loop
+add-run c = omega (arith, room c, wrote-long (c .before .loop .inv), c .before .before .before .good)
 
-slice-set-from-area : tie.Need-slice-set-from-area Inv-loop μ-loop
-slice-set-from-area c = omega arith
+mul-run-3 : tie.Need-mul-run-3 Inv-loop μ-loop
+mul-run-3 c = omega (arith, room c, wrote-long (c .before .loop .inv), c .before .before .before .good)
+
+sub-run : tie.Need-sub-run Inv-loop μ-loop
+sub-run c = omega arith
+
+part-run-start : tie.Need-part-run-start Inv-loop μ-loop
+part-run-start c = omega arith
+
+part-run-end : tie.Need-part-run-end Inv-loop μ-loop
+part-run-end c = room c
+
+run-requires-2 : tie.Need-run-requires-2 Inv-loop μ-loop
+run-requires-2 c κs = c .before .before .before .before .pre
 
 add-i : tie.Need-add-i Inv-loop μ-loop
 add-i c = omega arith
@@ -47,24 +63,29 @@ loop-less c = omega arith
 
 loop-again : tie.Need-loop-again Inv-loop μ-loop
 loop-again c =
-    let a = c .before .before .before .before .args in
-    let l = c .before .before .before .loop in
-    -- what is read at i is the entry's, and what is stored there is that dequantized
-    let old = written-read (l .i) _ (a .area .now) (l .area) (l .i) (pos 0) (omega arith) (omega arith) (l .inv .1 .1) in
-    let read = back w16 (getD (l .area) (l .i) (pos 0)) (c .before .one-arg .given) ∙ old in
-    let f = dequantized (toZ w32 (ofZ w32 (a .scale))) (toZ w32 (ofZ w32 (a .offset))) (a .shift) in
-    let new = back w16 (c .one .result) (c .one .ok) ∙ c .one .ensures ∙ ap f read in
-    (omega arith, (simp length-set (omega arith), written-step (l .i) _ (a .area .now) (l .area) _ (omega arith) (l .inv .1 .1) new))
+    let i = c .before .before .before in
+    let l = i .before .loop in
+    wrote-row (l .inv) (i .loop-test .taken) _ (four _ (i .before .before .before .args .area .now) (l .area) (l .i) (l .inv) (i .loop-test .taken) _ (c .before .run2 .ensures))
 
 same-length : tie.Need-same-length Inv-loop μ-loop
-same-length c = omega arith
+same-length c = search needs
 
 returns : tie.Need-returns Inv-loop μ-loop
 returns c =
-    let s = c .before .before .fits .scale in
-    let o = c .before .before .fits .offset in
-    let e : c .before .loop .i ≡ length (c .before .before .args .area .now) = omega arith in
-    simp toZ-ofZ at (rw e at (c .before .loop .inv .1 .1)) ∙ written-map _ (c .before .before .args .area .now) (pos 0)
+    let s = c .before .before .before .before .fits .scale in
+    let o = c .before .before .before .before .fits .offset in
+    simp toZ-ofZ at (c .before .run .ensures)
+
+same-length-2 : tie.Need-same-length-2 Inv-loop μ-loop
+same-length-2 c = wrote-long (c .before .loop .inv)
+
+returns-2 : tie.Need-returns-2 Inv-loop μ-loop
+returns-2 c =
+    let a = c .before .before .before .args in
+    let s = c .before .before .before .fits .scale in
+    let o = c .before .before .before .fits .offset in
+    let f = dequantized (toZ w32 (ofZ w32 (a .scale))) (toZ w32 (ofZ w32 (a .offset))) (a .shift) in
+    simp toZ-ofZ at (fours-end f (a .area .now) (c .before .loop .area) (c .before .loop .i) (c .before .loop .inv) (c .before .before .if1 .left) (c .loop-test .left))
 
 pub each-spec : {M : Type 1} → statement M
 each-spec =
@@ -72,14 +93,20 @@ each-spec =
     (tie.spec
     Inv-loop
     μ-loop
+    run-requires
     loop-holds
-    mul-one
-    slice-copy-out-one
-    one-requires
-    mul-t12
-    slice-set-from-area
+    mul-run
+    mul-run-2
+    add-run
+    mul-run-3
+    sub-run
+    part-run-start
+    part-run-end
+    run-requires-2
     add-i
     loop-less
     loop-again
     same-length
-    returns)
+    returns
+    same-length-2
+    returns-2)

@@ -5,8 +5,7 @@ use mir.Val.{toZ, ofZ}
 use Rattle.evc.specs.declared.Scale.the-variants.{Value}
 use Rattle.evc.specs.Answers.{value, scaleReading}
 use Rattle.evc.specs.Dequantizer.{scale, scaleReply}
-use Rattle.itdq.proofs.Laws.{scale-accepted}
-use Rattle.itdq.proofs.Matches.{not-refused}
+use Rattle.itdq.proofs.Scales.{scale-accepted, not-refused}
 use borrow.Author.Needs.{needs}
 use Rattle.itdq.proofs.block.scale_of.Statement.{statement}
 use Rattle.itdq.proofs.block.scale_of.Tie as tie

@@ -1,14 +1,14 @@
 -- `itdq::sub_block::evc_sub_block_itdq2` meets its contract. Assumes nothing.
 use mathlib.Core.Path.{sym, _∙_}
 use Rattle.evc.proofs.SubBlocks.{sub-refused}
-use Rattle.itdq.proofs.Matches.{sub-done, sub-not-done}
-use Rattle.itdq.proofs.SubTests.{sub-left}
+use Rattle.refusals.proofs.Matches.{sub-done, sub-not-done}
+use Rattle.itdq.proofs.SubBlocks.{sub-left}
 use borrow.Author.Needs.{needs}
 use Rattle.itdq.proofs.sub_block.evc_sub_block_itdq2.Statement.{statement}
 use Rattle.itdq.proofs.sub_block.evc_sub_block_itdq2.Tie as tie
 
-sub-tests-requires : tie.Need-sub-tests-requires
-sub-tests-requires c κs = search needs
+sub-block-requires : tie.Need-sub-block-requires
+sub-block-requires c κs = search needs
 
 enum-told : tie.Need-enum-told
 enum-told c = search needs
@@ -40,7 +40,7 @@ same-length c = search needs
 returns : tie.Need-returns
 returns c =
     let start = c .before .before .before .before .before .before .before .before .before .before .before .before .before .before .before in
-    let t = c .before .before .before .before .before .before .before .before .before .before .before .before .before .before .sub-tests in (
+    let t = c .before .before .before .before .before .before .before .before .before .before .before .before .before .before .sub-block in (
       t .ensures,
       sub-left (start .args .call) (start .args .coef .now) _ _ _ (sym (t .ensures) ∙ sub-done (t .result) (c .before .before .before .before .before .before .before .before .before .before .before .before .before .match .keys1))
           (c .before .before .before .before .before .before .before .before .before .before .luma-job .ensures) (c .before .before .before .before .before .before .chroma-job .ensures) (c .before .before .chroma-job2 .ensures)
@@ -50,7 +50,7 @@ returns c =
 returns-2 : tie.Need-returns-2
 returns-2 c =
     let start = c .before .before .before in
-    let t = c .before .before .sub-tests in
+    let t = c .before .before .sub-block in
     let n = sub-not-done (t .result) (c .before .match .keys2) in
     (t .ensures, sym (sub-refused (start .args .call) (start .args .coef .now) (n .0) (n .1) (sym (t .ensures) ∙ n .2)))
 
@@ -58,7 +58,7 @@ pub evc-sub-block-itdq2-spec : {M : Type 1} → statement M
 evc-sub-block-itdq2-spec =
     tie.close
     (tie.spec
-    sub-tests-requires
+    sub-block-requires
     enum-told
     luma-job-requires
     component-requires

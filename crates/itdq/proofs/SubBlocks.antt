@@ -1,0 +1,28 @@
+-- What an accepted sub-block call leaves. Assumes nothing.
+use mathlib.Core.Path.{_≡_, refl, sym, _∙_}
+use mathlib.Core.List.{List, [], _∷_, _++_}
+use lib.ListN.{length}
+use lib.IntN.{ℤ}
+use Rattle.order.specs.Jobs.{Kind, after, jobs}
+use Rattle.evc.specs.declared.Job.{Job}
+use Rattle.evc.specs.declared.SubBlock.{SubBlock}
+use Rattle.evc.specs.Answers.{accepted}
+use Rattle.evc.specs.Jobs.{blockJobs}
+use Rattle.evc.specs.SubBlocks.{luma, chroma, given, subReply, subExit}
+
+-- one list of jobs after another
+jobs-append : {A J : Type 0} (w : Kind A J) (js ks : List J) (b : List A) → jobs w (js ++ ks) b ≡ jobs w ks (jobs w js b)
+jobs-append w [] ks b = refl
+jobs-append w (j ∷ js) ks b = jobs-append w js ks (after w j b)
+
+-- what the three components leave, one after the other
+pub sub-left : (s : SubBlock) (b p q r : List ℤ) {y u v : Job} → subReply (length b) s ≡ accepted
+    → y ≡ luma s (s .y) → u ≡ chroma s (s .u) → v ≡ chroma s (s .v)
+    → p ≡ jobs blockJobs (given (s .y .flag) (y ∷ [])) b
+    → q ≡ jobs blockJobs (given (s .u .flag) (u ∷ [])) p
+    → r ≡ jobs blockJobs (given (s .v .flag) (v ∷ [])) q
+    → r ≡ subExit s b
+unfolding subExit
+sub-left s b p q r a ey eu ev ep eq er =
+    er ∙ rw (a, ev, eq, eu, ep, ey)
+    (sym (jobs-append blockJobs (given (s .y .flag) (luma s (s .y) ∷ [])) _ b ∙ jobs-append blockJobs (given (s .u .flag) (chroma s (s .u) ∷ [])) _ _))
