@@ -3,7 +3,7 @@ use mathlib.Core.Path.{_≡_, refl, sym, ap, _∙_, subst}
 use mathlib.Core.List.{List}
 use Prim.Native.Nat.{ℕ, suc, _+_, _*_, _/_, _%_, _^_, _<_, _≤_}
 use native.Mathlib.Omega.{arith}
-use native.Mathlib.Nat.{mul-comm, suc-mul, mul-le-mul-right, add-zero, zero-mul, not-suc-le-zero}
+use native.Mathlib.Nat.{mul-comm, suc-mul, mul-le-mul-right, add-zero, zero-mul, not-suc-le-zero, mod-eq-of-lt}
 use native.Mathlib.Decide.{ℕ-discrete}
 use lib.Pow.{pow-add}
 use lib.Dec.{T, leb, leb→le}
@@ -18,7 +18,7 @@ use Rattle.integers.specs.Sum.{ofZ+}
 use Rattle.integers.proofs.Sum.{sum-ext}
 use Rattle.evc.specs.Stages.{product, rounding}
 use Rattle.halving.specs.Line.{line, Inputs, Sums}
-use Rattle.halving.specs.Lines.{Gathered, Next, Room, Rooms, Lined}
+use Rattle.halving.specs.Lines.{Gathered, Amount, Next, Room, Rooms, Lined}
 use Rattle.halving.proofs.Halving.{whole}
 
 -- place k·l + j of n·l places
@@ -122,3 +122,7 @@ round-test = tt
 
 pub rounding-within : (s : ℕ) → s ≤ 31 → Within 2147483648 (rounding s)
 rounding-within s h = record { bound = leb→le _ 2147483648 (below-at (λ s. leb (natAbs (rounding s)) 2147483648) 32 round-test s (omega arith)) }
+
+-- as the code has it, of an allowed shift
+pub amount : {add : ℤ} (s : ℕ) → s ≤ 31 → add ≡ rounding (s % 32) → Amount add s
+amount s h e = let r : s % 32 ≡ s = mod-eq-of-lt (omega arith) in record { most = h; is = e ∙ ap rounding r }
