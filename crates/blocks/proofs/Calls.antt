@@ -45,10 +45,3 @@ module _ {least n m a b : ℕ} (w : Wide least n m a b) where
 
 pub wide-rooms : {least a b : ℕ} {src dst : List ℤ} → Wide least (length src) (length dst) a b → Rooms src dst (2 ^ a) ((1 * 2 ^ b) % 2 ^ 64)
 wide-rooms {least} {a} {b} w = rooms a b _ (lines w) (w .src-room) (w .dst-room)
-
--- a log that is known
-pub sized-rooms : {src dst : List ℤ} {l : ℕ} (a k : ℕ) → a ≡ k → Rooms src dst (2 ^ a) l → Rooms src dst (2 ^ k) l
-sized-rooms {src} {dst} {l} a k e r = subst (λ (g : ℕ). Rooms src dst (2 ^ g) l) e r
-
-pub sized-end : (F : ℕ → ℕ → ℤ) (d₀ : List ℤ) {d : List ℤ} (l a k : ℕ) → a ≡ k → d ≡ written (2 ^ k * l) (F k) d₀ → d ≡ written (2 ^ a * l) (F a) d₀
-sized-end F d₀ {d} l a k e p = subst (λ (g : ℕ). d ≡ written (2 ^ g * l) (F g) d₀) (sym e) p

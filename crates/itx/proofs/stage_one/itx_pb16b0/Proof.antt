@@ -15,10 +15,7 @@ gather-i16-requires : tie.Need-gather-i16-requires
 gather-i16-requires c κs = (refl, (c .before .pre .among, c .before .pre .src-room))
 
 slice-aggregate-own16 : tie.Need-slice-aggregate-own16
-slice-aggregate-own16 c = sym (c .before .before .gather-i16 .ensures .long)
-
-slice-aggregate-own16-2 : tie.Need-slice-aggregate-own16-2
-slice-aggregate-own16-2 c = refl
+slice-aggregate-own16 c = refl
 
 own16-requires : tie.Need-own16-requires
 own16-requires c κs = (inputs (c .before .before .before .gather-i16 .ensures) (omega arith), refl)
@@ -45,7 +42,6 @@ itx-pb16b0-spec =
     slice-aggregate-gather-i16
     gather-i16-requires
     slice-aggregate-own16
-    slice-aggregate-own16-2
     own16-requires
     slice-aggregate-store-i32
     store-i32-requires

@@ -12,22 +12,19 @@ slice-aggregate-gather-i16 : tie.Need-slice-aggregate-gather-i16
 slice-aggregate-gather-i16 c = refl
 
 gather-i16-requires : tie.Need-gather-i16-requires
-gather-i16-requires c κs = (refl, (c .before .pre .1 .among, c .before .pre .1 .src-room))
+gather-i16-requires c κs = (refl, (c .before .pre .among, c .before .pre .src-room))
 
 slice-aggregate-own32 : tie.Need-slice-aggregate-own32
-slice-aggregate-own32 c = sym (c .before .before .gather-i16 .ensures .long)
-
-slice-aggregate-own32-2 : tie.Need-slice-aggregate-own32-2
-slice-aggregate-own32-2 c = refl
+slice-aggregate-own32 c = refl
 
 own32-requires : tie.Need-own32-requires
-own32-requires c κs = (c .before .before .before .before .before .pre .0, (inputs (c .before .before .before .gather-i16 .ensures) (omega arith), refl))
+own32-requires c κs = (inputs (c .before .before .before .gather-i16 .ensures) (omega arith), refl)
 
 slice-aggregate-store-i32 : tie.Need-slice-aggregate-store-i32
 slice-aggregate-store-i32 c = sym (c .before .before .own32 .ensures .long)
 
 store-i32-requires : tie.Need-store-i32-requires
-store-i32-requires c κs = (omega (arith, c .before .before .before .own32 .ensures .long), c .before .before .before .before .before .before .before .before .before .pre .1 .dst-room)
+store-i32-requires c κs = (omega (arith, c .before .before .before .own32 .ensures .long), c .before .before .before .before .before .before .before .before .before .pre .dst-room)
 
 same-length : tie.Need-same-length
 same-length c = c .before .store-i32 .ensures .long
@@ -45,7 +42,6 @@ itx-pb32b0-spec =
     slice-aggregate-gather-i16
     gather-i16-requires
     slice-aggregate-own32
-    slice-aggregate-own32-2
     own32-requires
     slice-aggregate-store-i32
     store-i32-requires

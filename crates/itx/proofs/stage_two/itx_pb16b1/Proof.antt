@@ -17,10 +17,7 @@ gather-i32-requires : tie.Need-gather-i32-requires
 gather-i32-requires c κs = (refl, (c .before .pre .1 .among, c .before .pre .1 .src-room))
 
 slice-aggregate-own16 : tie.Need-slice-aggregate-own16
-slice-aggregate-own16 c = sym (c .before .before .gather-i32 .ensures .long)
-
-slice-aggregate-own16-2 : tie.Need-slice-aggregate-own16-2
-slice-aggregate-own16-2 c = refl
+slice-aggregate-own16 c = refl
 
 own16-requires : tie.Need-own16-requires
 own16-requires c κs = (inputs (c .before .before .before .gather-i32 .ensures) (omega arith), refl)
@@ -54,7 +51,6 @@ itx-pb16b1-spec =
     slice-aggregate-gather-i32
     gather-i32-requires
     slice-aggregate-own16
-    slice-aggregate-own16-2
     own16-requires
     slice-aggregate-store-i16
     store-i16-requires

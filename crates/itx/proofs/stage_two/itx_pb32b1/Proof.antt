@@ -14,16 +14,13 @@ slice-aggregate-gather-i32 : tie.Need-slice-aggregate-gather-i32
 slice-aggregate-gather-i32 c = refl
 
 gather-i32-requires : tie.Need-gather-i32-requires
-gather-i32-requires c κs = (refl, (c .before .pre .1 .1 .among, c .before .pre .1 .1 .src-room))
+gather-i32-requires c κs = (refl, (c .before .pre .1 .among, c .before .pre .1 .src-room))
 
 slice-aggregate-own32 : tie.Need-slice-aggregate-own32
-slice-aggregate-own32 c = sym (c .before .before .gather-i32 .ensures .long)
-
-slice-aggregate-own32-2 : tie.Need-slice-aggregate-own32-2
-slice-aggregate-own32-2 c = refl
+slice-aggregate-own32 c = refl
 
 own32-requires : tie.Need-own32-requires
-own32-requires c κs = (c .before .before .before .before .before .pre .1 .0, (inputs (c .before .before .before .gather-i32 .ensures) (omega arith), refl))
+own32-requires c κs = (inputs (c .before .before .before .gather-i32 .ensures) (omega arith), refl)
 
 slice-aggregate-store-i16 : tie.Need-slice-aggregate-store-i16
 slice-aggregate-store-i16 c = sym (c .before .before .own32 .ensures .long)
@@ -35,7 +32,7 @@ store-i16-requires c κs =
         rw (toZ-ofZ (s .fits .add)) (s .pre .0),
         own-bounded 32 (inputs (c .before .before .before .before .before .before .before .gather-i32 .ensures) (omega arith)) (c .before .before .before .own32 .ensures),
       ),
-      (omega (arith, c .before .before .before .own32 .ensures .long), s .pre .1 .1 .dst-room),
+      (omega (arith, c .before .before .before .own32 .ensures .long), s .pre .1 .dst-room),
     )
 
 same-length : tie.Need-same-length
@@ -54,7 +51,6 @@ itx-pb32b1-spec =
     slice-aggregate-gather-i32
     gather-i32-requires
     slice-aggregate-own32
-    slice-aggregate-own32-2
     own32-requires
     slice-aggregate-store-i16
     store-i16-requires
