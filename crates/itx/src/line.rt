@@ -79,14 +79,10 @@ pub(crate) fn line32(t: &[i8], w: usize, x: &[i64], e: &mut [i64])
     steps(t, w, x, e, 4, 4, 0, 4);
     steps(t, w, x, e, 8, 2, 0, 4);
     steps(t, w, x, e, 8, 2, 4, 8);
-    steps(t, w, x, e, 16, 1, 0, 2);
-    steps(t, w, x, e, 16, 1, 2, 4);
-    steps(t, w, x, e, 16, 1, 4, 6);
-    steps(t, w, x, e, 16, 1, 6, 8);
-    steps(t, w, x, e, 16, 1, 8, 10);
-    steps(t, w, x, e, 16, 1, 10, 12);
-    steps(t, w, x, e, 16, 1, 12, 14);
-    steps(t, w, x, e, 16, 1, 14, 16);
+    steps(t, w, x, e, 16, 1, 0, 4);
+    steps(t, w, x, e, 16, 1, 4, 8);
+    steps(t, w, x, e, 16, 1, 8, 12);
+    steps(t, w, x, e, 16, 1, 12, 16);
 }
 
 pub(crate) fn line64(t: &[i8], w: usize, x: &[i64], e: &mut [i64])

@@ -25,7 +25,7 @@ pub(crate) fn own32(x: &[i64; 32], e: &mut [i64])
     line32(&t, 128, x, e);
 }
 
-pub(crate) fn own64(t: &[i8], x: &[i64], e: &mut [i64])
+pub(crate) fn own64(t: &[i8; 4096], x: &[i64; 64], e: &mut [i64])
     requires { ⌜ (now t ≡ flat) × (Inputs (now x) 64 × (length (now e) ≡ 64)) ⌝ }
     ensures { λ _. ⌜ Sums (now (e .exit)) (tm 64) 1 64 (now (x .entry)) ⌝ }
 {

@@ -1,13 +1,12 @@
 // Stage one of the inverse transform, line by line: the Rust's `itx_pb16b0`, `itx_pb32b0` and `itx_pb64b0`, and one call that picks the size.
 // Document 01, "The two stages".
-// Differs from the Rust in: a call that breaks a test is not done; a function of each size does one line.
+// Differs from the Rust in: a call that breaks a test is not done; a line is copied first.
 ghost use mathlib.Core.Path.{_≡_};
 ghost use Prim.Native.Nat.{_*_};
 ghost use Rattle.integers.specs.Lists.{written};
 ghost use Rattle.evc.specs.Table.{tm};
 ghost use Rattle.evc.specs.Stages.{stageOneAt};
-ghost use Rattle.table.specs.Flat.{flat};
-ghost use Rattle.halving.specs.Lines.{Room, Rooms, Lined};
+ghost use Rattle.halving.specs.Lines.{Rooms};
 ghost use Rattle.halving.specs.Own.{ownOne, doneOne};
 use super::gather::gather_i16;
 use super::own::own16;
@@ -15,65 +14,44 @@ use super::own::own32;
 use super::own::own64;
 use super::store::store_i32;
 
-// Line j of l, and all lines, of each size.
-fn itx_pb16b0(src: &[i16], dst: &mut [i32], l: usize, j: usize)
-    requires { ⌜ Room (now src) (now dst) 16 l j ⌝ }
-    ensures { λ _. ⌜ Lined (stageOneAt (tm 16) 16 l (now (src .entry))) (now (dst .entry)) (now (dst .exit)) 16 j ⌝ }
-{
-    let mut x = [0i64; 16];
-    gather_i16(src, &mut x, 16, l, j);
-    let mut e = [0i64; 16];
-    own16(&x, &mut e);
-    store_i32(&e, dst, 16, j);
-}
-
-fn lines16(src: &[i16], dst: &mut [i32], l: usize)
+// All lines, one after the other, of each size.
+fn itx_pb16b0(src: &[i16], dst: &mut [i32], l: usize)
     requires { ⌜ Rooms (now src) (now dst) 16 l ⌝ }
     ensures { λ _. ⌜ now (dst .exit) ≡ written (16 * l) (stageOneAt (tm 16) 16 l (now (src .entry))) (now (dst .entry)) ⌝ }
 {
     for j in 0..l {
-        itx_pb16b0(src, dst, l, j);
+        let mut x = [0i64; 16];
+        gather_i16(src, &mut x, 16, l, j);
+        let mut e = [0i64; 16];
+        own16(&x, &mut e);
+        store_i32(&e, dst, 16, j);
     }
 }
 
-fn itx_pb32b0(src: &[i16], dst: &mut [i32], l: usize, j: usize)
-    requires { ⌜ Room (now src) (now dst) 32 l j ⌝ }
-    ensures { λ _. ⌜ Lined (stageOneAt (tm 32) 32 l (now (src .entry))) (now (dst .entry)) (now (dst .exit)) 32 j ⌝ }
-{
-    let mut x = [0i64; 32];
-    gather_i16(src, &mut x, 32, l, j);
-    let mut e = [0i64; 32];
-    own32(&x, &mut e);
-    store_i32(&e, dst, 32, j);
-}
-
-fn lines32(src: &[i16], dst: &mut [i32], l: usize)
+fn itx_pb32b0(src: &[i16], dst: &mut [i32], l: usize)
     requires { ⌜ Rooms (now src) (now dst) 32 l ⌝ }
     ensures { λ _. ⌜ now (dst .exit) ≡ written (32 * l) (stageOneAt (tm 32) 32 l (now (src .entry))) (now (dst .entry)) ⌝ }
 {
     for j in 0..l {
-        itx_pb32b0(src, dst, l, j);
+        let mut x = [0i64; 32];
+        gather_i16(src, &mut x, 32, l, j);
+        let mut e = [0i64; 32];
+        own32(&x, &mut e);
+        store_i32(&e, dst, 32, j);
     }
 }
 
-fn itx_pb64b0(t: &[i8], src: &[i16], dst: &mut [i32], l: usize, j: usize)
-    requires { ⌜ (now t ≡ flat) × Room (now src) (now dst) 64 l j ⌝ }
-    ensures { λ _. ⌜ Lined (stageOneAt (tm 64) 64 l (now (src .entry))) (now (dst .entry)) (now (dst .exit)) 64 j ⌝ }
-{
-    let mut x = [0i64; 64];
-    gather_i16(src, &mut x, 64, l, j);
-    let mut e = [0i64; 64];
-    own64(t, &x, &mut e);
-    store_i32(&e, dst, 64, j);
-}
-
-fn lines64(src: &[i16], dst: &mut [i32], l: usize)
+fn itx_pb64b0(src: &[i16], dst: &mut [i32], l: usize)
     requires { ⌜ Rooms (now src) (now dst) 64 l ⌝ }
     ensures { λ _. ⌜ now (dst .exit) ≡ written (64 * l) (stageOneAt (tm 64) 64 l (now (src .entry))) (now (dst .entry)) ⌝ }
 {
     let t = table::table();
     for j in 0..l {
-        itx_pb64b0(&t, src, dst, l, j);
+        let mut x = [0i64; 64];
+        gather_i16(src, &mut x, 64, l, j);
+        let mut e = [0i64; 64];
+        own64(&t, &x, &mut e);
+        store_i32(&e, dst, 64, j);
     }
 }
 
@@ -85,9 +63,9 @@ pub fn itxb0(src: &[i16], dst: &mut [i32], log2_size: usize, log2_line: usize) -
     if halving::mine(4, 6, 0, src.len(), dst.len(), log2_size, log2_line, 0) {
         let l = 1usize << log2_line;
         match log2_size {
-            4 => lines16(src, dst, l),
-            5 => lines32(src, dst, l),
-            _ => lines64(src, dst, l),
+            4 => itx_pb16b0(src, dst, l),
+            5 => itx_pb32b0(src, dst, l),
+            _ => itx_pb64b0(src, dst, l),
         }
         return true;
     }

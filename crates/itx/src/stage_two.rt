@@ -1,13 +1,12 @@
 // Stage two of the inverse transform, line by line: the Rust's `itx_pb16b1`, `itx_pb32b1` and `itx_pb64b1`, and one call that picks the size.
 // Document 01, "The two stages".
-// Differs from the Rust in: a call that breaks a test is not done; a function of each size does one line; shift 0 adds 0.
+// Differs from the Rust in: a call that breaks a test is not done; a line is copied first; shift 0 adds 0.
 ghost use mathlib.Core.Path.{_≡_};
 ghost use Prim.Native.Nat.{_*_};
 ghost use Rattle.integers.specs.Lists.{written};
 ghost use Rattle.evc.specs.Table.{tm};
 ghost use Rattle.evc.specs.Stages.{stageTwoAt};
-ghost use Rattle.table.specs.Flat.{flat};
-ghost use Rattle.halving.specs.Lines.{Amount, Room, Rooms, Lined};
+ghost use Rattle.halving.specs.Lines.{Amount, Rooms};
 ghost use Rattle.halving.specs.Own.{ownTwo, doneTwo};
 use super::gather::gather_i32;
 use super::own::own16;
@@ -15,65 +14,44 @@ use super::own::own32;
 use super::own::own64;
 use super::store::store_i16;
 
-// Line j of l, and all lines, of each size.
-fn itx_pb16b1(src: &[i32], dst: &mut [i16], l: usize, j: usize, add: i64, shift: u8)
-    requires { ⌜ Amount add shift × Room (now src) (now dst) 16 l j ⌝ }
-    ensures { λ _. ⌜ Lined (stageTwoAt (tm 16) 16 l shift (now (src .entry))) (now (dst .entry)) (now (dst .exit)) 16 j ⌝ }
-{
-    let mut x = [0i64; 16];
-    gather_i32(src, &mut x, 16, l, j);
-    let mut e = [0i64; 16];
-    own16(&x, &mut e);
-    store_i16(&e, dst, 16, j, add, shift);
-}
-
-fn lines16(src: &[i32], dst: &mut [i16], l: usize, add: i64, shift: u8)
+// All lines, one after the other, of each size.
+fn itx_pb16b1(src: &[i32], dst: &mut [i16], l: usize, add: i64, shift: u8)
     requires { ⌜ Amount add shift × Rooms (now src) (now dst) 16 l ⌝ }
     ensures { λ _. ⌜ now (dst .exit) ≡ written (16 * l) (stageTwoAt (tm 16) 16 l shift (now (src .entry))) (now (dst .entry)) ⌝ }
 {
     for j in 0..l {
-        itx_pb16b1(src, dst, l, j, add, shift);
+        let mut x = [0i64; 16];
+        gather_i32(src, &mut x, 16, l, j);
+        let mut e = [0i64; 16];
+        own16(&x, &mut e);
+        store_i16(&e, dst, 16, j, add, shift);
     }
 }
 
-fn itx_pb32b1(src: &[i32], dst: &mut [i16], l: usize, j: usize, add: i64, shift: u8)
-    requires { ⌜ Amount add shift × Room (now src) (now dst) 32 l j ⌝ }
-    ensures { λ _. ⌜ Lined (stageTwoAt (tm 32) 32 l shift (now (src .entry))) (now (dst .entry)) (now (dst .exit)) 32 j ⌝ }
-{
-    let mut x = [0i64; 32];
-    gather_i32(src, &mut x, 32, l, j);
-    let mut e = [0i64; 32];
-    own32(&x, &mut e);
-    store_i16(&e, dst, 32, j, add, shift);
-}
-
-fn lines32(src: &[i32], dst: &mut [i16], l: usize, add: i64, shift: u8)
+fn itx_pb32b1(src: &[i32], dst: &mut [i16], l: usize, add: i64, shift: u8)
     requires { ⌜ Amount add shift × Rooms (now src) (now dst) 32 l ⌝ }
     ensures { λ _. ⌜ now (dst .exit) ≡ written (32 * l) (stageTwoAt (tm 32) 32 l shift (now (src .entry))) (now (dst .entry)) ⌝ }
 {
     for j in 0..l {
-        itx_pb32b1(src, dst, l, j, add, shift);
+        let mut x = [0i64; 32];
+        gather_i32(src, &mut x, 32, l, j);
+        let mut e = [0i64; 32];
+        own32(&x, &mut e);
+        store_i16(&e, dst, 32, j, add, shift);
     }
 }
 
-fn itx_pb64b1(t: &[i8], src: &[i32], dst: &mut [i16], l: usize, j: usize, add: i64, shift: u8)
-    requires { ⌜ Amount add shift × ((now t ≡ flat) × Room (now src) (now dst) 64 l j) ⌝ }
-    ensures { λ _. ⌜ Lined (stageTwoAt (tm 64) 64 l shift (now (src .entry))) (now (dst .entry)) (now (dst .exit)) 64 j ⌝ }
-{
-    let mut x = [0i64; 64];
-    gather_i32(src, &mut x, 64, l, j);
-    let mut e = [0i64; 64];
-    own64(t, &x, &mut e);
-    store_i16(&e, dst, 64, j, add, shift);
-}
-
-fn lines64(src: &[i32], dst: &mut [i16], l: usize, add: i64, shift: u8)
+fn itx_pb64b1(src: &[i32], dst: &mut [i16], l: usize, add: i64, shift: u8)
     requires { ⌜ Amount add shift × Rooms (now src) (now dst) 64 l ⌝ }
     ensures { λ _. ⌜ now (dst .exit) ≡ written (64 * l) (stageTwoAt (tm 64) 64 l shift (now (src .entry))) (now (dst .entry)) ⌝ }
 {
     let t = table::table();
     for j in 0..l {
-        itx_pb64b1(&t, src, dst, l, j, add, shift);
+        let mut x = [0i64; 64];
+        gather_i32(src, &mut x, 64, l, j);
+        let mut e = [0i64; 64];
+        own64(&t, &x, &mut e);
+        store_i16(&e, dst, 64, j, add, shift);
     }
 }
 
@@ -86,9 +64,9 @@ pub fn itxb1(src: &[i32], dst: &mut [i16], log2_size: usize, log2_line: usize, s
         let l = 1usize << log2_line;
         let add = halving::rounding(shift);
         match log2_size {
-            4 => lines16(src, dst, l, add, shift),
-            5 => lines32(src, dst, l, add, shift),
-            _ => lines64(src, dst, l, add, shift),
+            4 => itx_pb16b1(src, dst, l, add, shift),
+            5 => itx_pb32b1(src, dst, l, add, shift),
+            _ => itx_pb64b1(src, dst, l, add, shift),
         }
         return true;
     }

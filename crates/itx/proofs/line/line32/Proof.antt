@@ -39,23 +39,11 @@ steps-requires-7 c κs = ((level (c .before .before .before .before .before .bef
 steps-requires-8 : tie.Need-steps-requires-8
 steps-requires-8 c κs = ((level (c .before .before .before .before .before .before .before .before .before .before .before .before .before .before .before .before .before .before .before .before .before .before .before .before .before) 16 1 refl (omega arith) (omega arith), (omega arith, omega arith)), c .before .before .steps7 .ensures)
 
-steps-requires-9 : tie.Need-steps-requires-9
-steps-requires-9 c κs = ((level (c .before .before .before .before .before .before .before .before .before .before .before .before .before .before .before .before .before .before .before .before .before .before .before .before .before .before .before .before) 16 1 refl (omega arith) (omega arith), (omega arith, omega arith)), c .before .before .steps8 .ensures)
-
-steps-requires-10 : tie.Need-steps-requires-10
-steps-requires-10 c κs = ((level (c .before .before .before .before .before .before .before .before .before .before .before .before .before .before .before .before .before .before .before .before .before .before .before .before .before .before .before .before .before .before .before) 16 1 refl (omega arith) (omega arith), (omega arith, omega arith)), c .before .before .steps9 .ensures)
-
-steps-requires-11 : tie.Need-steps-requires-11
-steps-requires-11 c κs = ((level (c .before .before .before .before .before .before .before .before .before .before .before .before .before .before .before .before .before .before .before .before .before .before .before .before .before .before .before .before .before .before .before .before .before .before) 16 1 refl (omega arith) (omega arith), (omega arith, omega arith)), c .before .before .steps10 .ensures)
-
-steps-requires-12 : tie.Need-steps-requires-12
-steps-requires-12 c κs = ((level (c .before .before .before .before .before .before .before .before .before .before .before .before .before .before .before .before .before .before .before .before .before .before .before .before .before .before .before .before .before .before .before .before .before .before .before .before .before) 16 1 refl (omega arith) (omega arith), (omega arith, omega arith)), c .before .before .steps11 .ensures)
-
 same-length : tie.Need-same-length
-same-length c = c .before .steps12 .ensures .long ∙ sym (c .before .before .before .before .before .before .before .before .before .before .before .before .before .before .before .before .before .before .before .before .before .before .before .before .before .before .before .before .before .before .before .before .before .before .before .before .before .before .before .pre .1)
+same-length c = c .before .steps8 .ensures .long ∙ sym (c .before .before .before .before .before .before .before .before .before .before .before .before .before .before .before .before .before .before .before .before .before .before .before .before .before .before .before .pre .1)
 
 returns : tie.Need-returns
-returns c = all (c .before .steps12 .ensures)
+returns c = all (c .before .steps8 .ensures)
 
 pub line32-spec : {M : Type 1} → statement M
 line32-spec =
@@ -70,9 +58,5 @@ line32-spec =
     steps-requires-6
     steps-requires-7
     steps-requires-8
-    steps-requires-9
-    steps-requires-10
-    steps-requires-11
-    steps-requires-12
     same-length
     returns)

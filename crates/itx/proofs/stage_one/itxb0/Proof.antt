@@ -48,32 +48,32 @@ mine-requires c κs = search needs
 shl-l : tie.Need-shl-l
 shl-l c = omega (arith, known c .line-most)
 
-lines16-requires : tie.Need-lines16-requires
-lines16-requires c κs = room (c .before .before) 4 (c .before .match .keys1)
+itx-pb16b0-requires : tie.Need-itx-pb16b0-requires
+itx-pb16b0-requires c κs = room (c .before .before) 4 (c .before .match .keys1)
 
-lines32-requires : tie.Need-lines32-requires
-lines32-requires c κs = room (c .before .before) 5 (c .before .match .keys2)
+itx-pb32b0-requires : tie.Need-itx-pb32b0-requires
+itx-pb32b0-requires c κs = room (c .before .before) 5 (c .before .match .keys2)
 
-lines64-requires : tie.Need-lines64-requires
-lines64-requires c κs = let d = c .before .before in room d 6 (omega (arith, known d .size-least, known d .size-most))
+itx-pb64b0-requires : tie.Need-itx-pb64b0-requires
+itx-pb64b0-requires c κs = let d = c .before .before in room d 6 (omega (arith, known d .size-least, known d .size-most))
 
 same-length : tie.Need-same-length
 same-length c = search needs
 
 returns : tie.Need-returns
-returns c = done (c .before .before .before .before) 4 (c .before .before .before .match .keys1) (c .before .lines16 .ensures)
+returns c = done (c .before .before .before .before) 4 (c .before .before .before .match .keys1) (c .before .itx-pb16b0 .ensures)
 
 same-length-2 : tie.Need-same-length-2
 same-length-2 c = search needs
 
 returns-2 : tie.Need-returns-2
-returns-2 c = done (c .before .before .before .before) 5 (c .before .before .before .match .keys2) (c .before .lines32 .ensures)
+returns-2 c = done (c .before .before .before .before) 5 (c .before .before .before .match .keys2) (c .before .itx-pb32b0 .ensures)
 
 same-length-3 : tie.Need-same-length-3
 same-length-3 c = search needs
 
 returns-3 : tie.Need-returns-3
-returns-3 c = let d = c .before .before .before .before in done d 6 (omega (arith, known d .size-least, known d .size-most)) (c .before .lines64 .ensures)
+returns-3 c = let d = c .before .before .before .before in done d 6 (omega (arith, known d .size-least, known d .size-most)) (c .before .itx-pb64b0 .ensures)
 
 returns-4 : tie.Need-returns-4
 returns-4 c = let s = c .before .before in one-left 4 6 0 (s .args .log2-size) (s .args .log2-line) (s .args .src .now) (s .args .dst .now) (sym (c .before .mine .ensures) ∙ c .if1 .left)
@@ -84,9 +84,9 @@ itxb0-spec =
     (tie.spec
     mine-requires
     shl-l
-    lines16-requires
-    lines32-requires
-    lines64-requires
+    itx-pb16b0-requires
+    itx-pb32b0-requires
+    itx-pb64b0-requires
     same-length
     returns
     same-length-2
