@@ -10,4 +10,5 @@ pub mod Lines
 pub mod Instance
 -- what callers cite
 pub mod Calls
+pub mod Own
 pub mod Clip

@@ -3,7 +3,7 @@ use mathlib.Core.Path.{_≡_, refl, sym, ap, _∙_, subst}
 use mathlib.Core.List.{List}
 use Prim.Native.Nat.{ℕ, suc, _+_, _*_, _/_, _%_, _^_, _<_, _≤_}
 use native.Mathlib.Omega.{arith}
-use native.Mathlib.Nat.{mul-comm, suc-mul, mul-le-mul-right, add-zero, zero-mul, not-suc-le-zero}
+use native.Mathlib.Nat.{mul-comm, suc-mul, mul-le-mul-right, add-zero, zero-mul, not-suc-le-zero, mod-eq-of-lt}
 use native.Mathlib.Decide.{ℕ-discrete}
 use lib.Pow.{pow-add}
 use lib.Dec.{T, leb, leb→le}
@@ -18,7 +18,7 @@ use Rattle.integers.specs.Sum.{ofZ+}
 use Rattle.integers.proofs.Sum.{sum-ext}
 use Rattle.evc.specs.Stages.{product, rounding}
 use Rattle.halving.specs.Line.{line, Inputs, Sums}
-use Rattle.halving.specs.Lines.{Gathered, Next, Room, Rooms, Lined}
+use Rattle.halving.specs.Lines.{Gathered, Amount, Next, Room, Rooms, Lined}
 use Rattle.halving.proofs.Halving.{whole}
 
 -- place k·l + j of n·l places
@@ -83,13 +83,6 @@ module _ (f : ℤ → ℤ) (T : ℕ → ℕ → ℤ) (N l j : ℕ) (src : List �
   pub lined : {d₀ d e x : List ℤ} → Gathered x src N N l j → Sums e T 1 N x → Next d₀ d (j * N) N (λ k. f (getD e k (pos 0))) → Lined left d₀ d N j
   lined g s n = next-ext n (stored g s)
 
--- a log that is known
-pub room-at : {src dst : List ℤ} {l j : ℕ} (log k : ℕ) → log ≡ k → Room src dst (2 ^ log) l j → Room src dst (2 ^ k) l j
-room-at {src} {dst} {l} {j} log k e r = subst (λ (g : ℕ). Room src dst (2 ^ g) l j) e r
-
-pub lined-at : (F : ℕ → ℕ → ℤ) {d₀ d : List ℤ} (j log k : ℕ) → log ≡ k → Lined (F k) d₀ d (2 ^ k) j → Lined (F log) d₀ d (2 ^ log) j
-lined-at F {d₀} {d} j log k e r = subst (λ (g : ℕ). Lined (F g) d₀ d (2 ^ g) j) (sym e) r
-
 -- the room of line j, where there is room for all lines
 pub room-of : {src d₀ : List ℤ} (d : List ℤ) (n l j : ℕ) → length d ≡ length d₀ → j < l → Rooms src d₀ n l → Room src d n l j
 room-of d n l j e h r = record { among = h; src-room = r .src-room; dst-room = omega (arith, e, r .dst-room, suc-mul j n, mul-le-mul-right {m = suc j} {n = l} n h, mul-comm l n) }
@@ -116,9 +109,20 @@ rooms a b l e r s = record { src-room = rw (e, ← pow-add 2 a b) r; dst-room = 
 pub stage-end : (F : ℕ → ℕ → ℤ) (d₀ : List ℤ) {d : List ℤ} (a b l : ℕ) → l ≡ 2 ^ b → d ≡ written (2 ^ a * l) (F l) d₀ → d ≡ written (2 ^ (a + b)) (F (2 ^ b)) d₀
 stage-end F d₀ a b l e p = rw (pow-add 2 a b, ← e) p
 
+-- a log that is known
+pub sized-rooms : {src dst : List ℤ} {l : ℕ} (a k : ℕ) → a ≡ k → Rooms src dst (2 ^ a) l → Rooms src dst (2 ^ k) l
+sized-rooms {src} {dst} {l} a k e r = subst (λ (g : ℕ). Rooms src dst (2 ^ g) l) e r
+
+pub sized-end : (F : ℕ → ℕ → ℤ) (d₀ : List ℤ) {d : List ℤ} (l a k : ℕ) → a ≡ k → d ≡ written (2 ^ k * l) (F k) d₀ → d ≡ written (2 ^ a * l) (F a) d₀
+sized-end F d₀ {d} l a k e p = subst (λ (g : ℕ). d ≡ written (2 ^ g * l) (F g) d₀) (sym e) p
+
 -- ---- the rounding number of stage two
 round-test : T (below (λ s. leb (natAbs (rounding s)) 2147483648) 32)
 round-test = tt
 
 pub rounding-within : (s : ℕ) → s ≤ 31 → Within 2147483648 (rounding s)
 rounding-within s h = record { bound = leb→le _ 2147483648 (below-at (λ s. leb (natAbs (rounding s)) 2147483648) 32 round-test s (omega arith)) }
+
+-- as the code has it, of an allowed shift
+pub amount : {add : ℤ} (s : ℕ) → s ≤ 31 → add ≡ rounding (s % 32) → Amount add s
+amount s h e = let r : s % 32 ≡ s = mod-eq-of-lt (omega arith) in record { most = h; is = e ∙ ap rounding r }

@@ -1,3 +1,4 @@
--- What the helpers of both stages promise each other: the sums of a line, and the lines of a buffer.
+-- What the helpers of both stages promise each other: the sums of a line, the lines of a buffer, and which calls are whose.
 pub mod Line
 pub mod Lines
+pub mod Own

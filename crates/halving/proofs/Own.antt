@@ -1,0 +1,101 @@
+-- Laws of own calls: what the guard's code shows test by test; what the code of an own call knows, and shows at its end; what a caller
+-- knows where no crate did the call. Assumes nothing.
+use mathlib.Core.Path.{_≡_, refl, sym, ap, _∙_}
+use mathlib.Core.Bool.{Bool, true, false, cond}
+use mathlib.Core.List.{List}
+use Prim.Native.Nat.{ℕ, _+_, _*_, _^_, _%_, _≤_, _<_}
+use native.Mathlib.Omega.{arith}
+use borrow.Author.Tests.{ltb-false, leb-true, eqb-true, le-leb, lt-leb, eq-eqb, ne-eqb}
+use lib.Dec.{leb, eqb}
+use lib.ListN.{length}
+use lib.IntN.{ℤ}
+use mir.Syntax.{w64}
+use Rattle.integers.specs.Lists.{written}
+use Rattle.integers.proofs.Bits.{one-shl}
+use Rattle.order.proofs.Tests.{and-both, not-both}
+use Rattle.evc.specs.Table.{tm}
+use Rattle.evc.specs.Tests.{Test, first}
+use Rattle.evc.specs.Stages.{stageOneAt, stageTwoAt, stageOneNumber, stageTwoNumber, stageTwoTests, stageOneExit, stageTwoExit}
+use Rattle.evc.proofs.Tests.{BrokenAt, refusalAt, number-some, first-at, unbroken, outside-no}
+use Rattle.halving.specs.Lines.{Rooms}
+use Rattle.halving.specs.Own.{own, Call, ownOne, ownTwo, doneOne, doneTwo}
+use Rattle.halving.proofs.Lines.{rooms, stage-end}
+
+-- ---- the guard
+pub refused : (ts : List Test) (k : ℕ) → BrokenAt ts k → false ≡ eqb (first ts) 0
+refused ts k b = sym (ne-eqb (first ts) 0 (λ e. omega (arith, number-some (refusalAt ts k), first-at ts k b)))
+
+module _ (lo hi least a b z : ℕ) where
+  pub too-small : a < lo → false ≡ own lo hi least a b z
+  unfolding own
+  too-small h = rw (lt-leb lo a h)
+
+  pub too-large : lo ≤ a → hi < a → false ≡ own lo hi least a b z
+  unfolding own
+  too-large g h = rw (le-leb lo a g, lt-leb a hi h)
+
+  pub too-few : lo ≤ a → a ≤ hi → b < least → false ≡ own lo hi least a b z
+  unfolding own
+  too-few f g h = rw (le-leb lo a f, le-leb a hi g, lt-leb least b h)
+
+  pub within : lo ≤ a → a ≤ hi → least ≤ b → (r : Bool) → r ≡ eqb z 0 → r ≡ own lo hi least a b z
+  unfolding own
+  within f g h r e = rw (le-leb lo a f, le-leb a hi g, le-leb least b h) e
+
+  -- ---- what a caller knows
+  pub own-accepted : own lo hi least a b z ≡ true → z ≡ 0
+  unfolding own
+  own-accepted e =
+      let p = and-both (leb lo a) _ e in
+      let q = and-both (leb a hi) _ (p .1) in
+      eqb-true z 0 (and-both (leb least b) _ (q .1) .1)
+
+  -- an accepted call in the range is own, so where it was not done it was not accepted
+  pub not-own : own lo hi least a b z ≡ false → lo ≤ a → a ≤ hi → least ≤ b → z ≡ 0 → ⊥
+  not-own e f g h q = not-both (sym (within f g h true (sym (eq-eqb z 0 q)))) e
+
+-- ---- what the code of an own call knows
+module _ {lo hi least n m a b shift : ℕ} where
+  pub call : own lo hi least a b (stageTwoNumber n m a b shift) ≡ true → Call lo hi least n m a b shift
+  unfolding own stageTwoNumber
+  call e =
+      let p = and-both _ _ e in
+      let q = and-both _ _ (p .1) in
+      let r = and-both _ _ (q .1) in
+      let u = unbroken (stageTwoTests n m a b shift) (eqb-true _ 0 (r .1)) in
+      record {
+        size-least = leb-true lo a (p .0);
+        size-most = leb-true a hi (q .0);
+        size-table = outside-no 1 6 a (u .0) .1;
+        line-least = leb-true least b (r .0);
+        line-most = ltb-false 6 b (u .1 .0);
+        shift-most = ltb-false 31 shift (u .1 .1 .0);
+        src-room = ltb-false _ _ (u .1 .1 .1 .0);
+        dst-room = ltb-false _ _ (u .1 .1 .1 .1 .0);
+      }
+
+  -- the code's number of lines is the number of lines
+  pub lines : Call lo hi least n m a b shift → (1 * 2 ^ b) % 2 ^ 64 ≡ 2 ^ b
+  lines w = one-shl w64 b (omega (arith, w .line-most))
+
+pub call-rooms : {lo hi least a b shift : ℕ} {src dst : List ℤ} → Call lo hi least (length src) (length dst) a b shift → Rooms src dst (2 ^ a) ((1 * 2 ^ b) % 2 ^ 64)
+call-rooms {a = a} {b = b} w = rooms a b _ (lines w) (w .src-room) (w .dst-room)
+
+-- ---- what it shows at its end. The guard's number is stage two's, whose test of shift 0 always passes
+module _ (lo hi least a b : ℕ) (src dst : List ℤ) where
+  pub one-did : {d : List ℤ} → own lo hi least a b (stageTwoNumber (length src) (length dst) a b 0) ≡ true → d ≡ written (2 ^ a * ((1 * 2 ^ b) % 2 ^ 64)) (stageOneAt (tm (2 ^ a)) (2 ^ a) ((1 * 2 ^ b) % 2 ^ 64) src) dst → (true ≡ ownOne lo hi least a b src dst) × (d ≡ doneOne true a b src dst)
+  unfolding stageOneNumber stageTwoNumber stageOneExit
+  one-did g p =
+      (sym g, rw (own-accepted lo hi least a b _ g) (stage-end (λ l. stageOneAt (tm (2 ^ a)) (2 ^ a) l src) dst a b _ (one-shl w64 b (omega (arith, call {n = length src} {m = length dst} {shift = 0} g .line-most))) p))
+
+  pub one-left : own lo hi least a b (stageTwoNumber (length src) (length dst) a b 0) ≡ false → (false ≡ ownOne lo hi least a b src dst) × (dst ≡ doneOne false a b src dst)
+  unfolding stageOneNumber stageTwoNumber
+  one-left g = (sym g, refl)
+
+  pub two-did : {d : List ℤ} (shift : ℕ) → own lo hi least a b (stageTwoNumber (length src) (length dst) a b shift) ≡ true → d ≡ written (2 ^ a * ((1 * 2 ^ b) % 2 ^ 64)) (stageTwoAt (tm (2 ^ a)) (2 ^ a) ((1 * 2 ^ b) % 2 ^ 64) shift src) dst → (true ≡ ownTwo lo hi least a b shift src dst) × (d ≡ doneTwo true a b shift src dst)
+  unfolding stageTwoExit
+  two-did shift g p =
+      (sym g, rw (own-accepted lo hi least a b _ g) (stage-end (λ l. stageTwoAt (tm (2 ^ a)) (2 ^ a) l shift src) dst a b _ (one-shl w64 b (omega (arith, call {n = length src} {m = length dst} g .line-most))) p))
+
+  pub two-left : (shift : ℕ) → own lo hi least a b (stageTwoNumber (length src) (length dst) a b shift) ≡ false → (false ≡ ownTwo lo hi least a b shift src dst) × (dst ≡ doneTwo false a b shift src dst)
+  two-left shift g = (sym g, refl)
