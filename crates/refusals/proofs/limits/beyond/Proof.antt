@@ -1,0 +1,13 @@
+-- `refusals::limits::beyond` meets its contract. Assumes nothing.
+use borrow.Author.Tests.{lt-ltb, le-ltb}
+use Rattle.refusals.proofs.limits.beyond.Statement.{statement}
+use Rattle.refusals.proofs.limits.beyond.Tie as tie
+
+returns : tie.Need-returns
+returns c = rw (lt-ltb _ _ (c .if1 .taken))
+
+returns-2 : tie.Need-returns-2
+returns-2 c = rw (le-ltb _ _ (c .if1 .left))
+
+pub beyond-spec : {M : Type 1} → statement M
+beyond-spec = tie.close (tie.spec returns returns-2)
