@@ -1,54 +1,18 @@
--- A call that is done by blocks passes every test of its stage. Assumes nothing.
-use mathlib.Core.Path.{_≡_, sym, ap, _∙_, subst}
-use mathlib.Core.List.{List}
-use Prim.Native.Nat.{ℕ, _+_, _*_, _-_, _^_, _%_, _≤_}
+-- A call of 16 lines or more is a number of whole blocks. Assumes nothing.
+use mathlib.Core.Path.{_≡_, ap, _∙_, subst}
+use Prim.Native.Nat.{ℕ, _+_, _*_, _-_, _^_, _%_}
 use native.Mathlib.Omega.{arith}
-use borrow.Author.Tests.{le-ltb}
 use lib.Dec.{T, eqb, eqb→eq}
-use lib.ListN.{length}
-use lib.IntN.{ℤ}
-use mir.Syntax.{w64}
-use Rattle.integers.specs.Lists.{written}
-use Rattle.integers.proofs.Bits.{one-shl}
 use Rattle.integers.proofs.Every.{below, below-at}
-use Rattle.evc.specs.Stages.{stageOneTests, stageTwoTests}
-use Rattle.evc.proofs.Tests.{Unbroken, inside-no}
-use Rattle.halving.specs.Lines.{Rooms}
-use Rattle.halving.proofs.Lines.{rooms}
-use Rattle.blocks.specs.Blocks.{Wide}
+use Rattle.halving.specs.Own.{Call}
+use Rattle.halving.proofs.Own.{lines}
 
 sixteens : T (below (λ k. eqb (2 ^ (4 + k) % 16) 0) 3)
 sixteens = tt
 
-module _ {least n m a b : ℕ} (w : Wide least n m a b) where
-  -- the code's shift is the number of lines, and that is a number of whole blocks
-  pub lines : (1 * 2 ^ b) % 2 ^ 64 ≡ 2 ^ b
-  lines = one-shl w64 b (omega (arith, w .line-most))
-
-  pub blocks : (1 * 2 ^ b) % 2 ^ 64 % 16 ≡ 0
-  blocks =
-      let e : 4 + (b - 4) ≡ b = omega (arith, w .line-least) in
-      ap (λ (x : ℕ). x % 16) lines
-      ∙ subst (λ (x : ℕ). 2 ^ x % 16 ≡ 0) e
-      (eqb→eq _ _ (below-at (λ k. eqb (2 ^ (4 + k) % 16) 0) 3 sixteens (b - 4) (omega (arith, w .line-most))))
-
-  module _ (some : 1 ≤ least) where
-    pub one-passed : Unbroken (stageOneTests n m a b)
-    one-passed =
-        (inside-no 1 6 a (omega (arith, w .size-least)) (w .size-most), (le-ltb 6 b (w .line-most), (le-ltb _ _ (w .src-room), (le-ltb _ _ (w .dst-room), tt))))
-
-    pub two-passed : (shift : ℕ) → shift ≤ 31 → Unbroken (stageTwoTests n m a b shift)
-    two-passed shift h = (
-      inside-no 1 6 a (omega (arith, w .size-least)) (w .size-most),
-      (le-ltb 6 b (w .line-most), (le-ltb 31 shift h, (le-ltb _ _ (w .src-room), (le-ltb _ _ (w .dst-room), tt)))),
-    )
-
-pub wide-rooms : {least a b : ℕ} {src dst : List ℤ} → Wide least (length src) (length dst) a b → Rooms src dst (2 ^ a) ((1 * 2 ^ b) % 2 ^ 64)
-wide-rooms {least} {a} {b} w = rooms a b _ (lines w) (w .src-room) (w .dst-room)
-
--- a log that is known
-pub sized-rooms : {src dst : List ℤ} {l : ℕ} (a k : ℕ) → a ≡ k → Rooms src dst (2 ^ a) l → Rooms src dst (2 ^ k) l
-sized-rooms {src} {dst} {l} a k e r = subst (λ (g : ℕ). Rooms src dst (2 ^ g) l) e r
-
-pub sized-end : (F : ℕ → ℕ → ℤ) (d₀ : List ℤ) {d : List ℤ} (l a k : ℕ) → a ≡ k → d ≡ written (2 ^ k * l) (F k) d₀ → d ≡ written (2 ^ a * l) (F a) d₀
-sized-end F d₀ {d} l a k e p = subst (λ (g : ℕ). d ≡ written (2 ^ g * l) (F g) d₀) (sym e) p
+pub blocks : {lo hi n m a b shift : ℕ} → Call lo hi 4 n m a b shift → (1 * 2 ^ b) % 2 ^ 64 % 16 ≡ 0
+blocks {b = b} w =
+    let e : 4 + (b - 4) ≡ b = omega (arith, w .line-least) in
+    ap (λ (x : ℕ). x % 16) (lines w)
+    ∙ subst (λ (x : ℕ). 2 ^ x % 16 ≡ 0) e
+    (eqb→eq _ _ (below-at (λ k. eqb (2 ^ (4 + k) % 16) 0) 3 sixteens (b - 4) (omega (arith, w .line-most))))

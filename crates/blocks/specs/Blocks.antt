@@ -6,7 +6,6 @@ use lib.ListN.{length, getD}
 use lib.IntN.{ℤ, pos, _+ℤ_, _-ℤ_, _*ℤ_, natAbs}
 use Rattle.integers.specs.Z.{floorPow, clip16}
 use Rattle.integers.specs.Lists.{tab}
-use Rattle.evc.specs.Tests.{samplesOf}
 use Rattle.evc.specs.Stages.{rounding}
 use Rattle.table.specs.Columns.{column}
 use Rattle.halving.specs.Lines.{Next}
@@ -75,12 +74,3 @@ pub record Room (src dst : List ℤ) (N l j0 : ℕ) : Type 0 where
 -- those lines of a stage of size N, which leaves G, are stored
 abbrev pub Blocked : (ℕ → ℤ) → List ℤ → List ℤ → ℕ → ℕ → Type 0
 Blocked G d₀ d N j0 = Next d₀ d (j0 * N) (16 * N) (λ i. G (j0 * N + i))
-
--- a call that is done by blocks: of size 2^least at least, of 16 lines at least, with room in buffers of n and m numbers
-pub record Wide (least n m logn logl : ℕ) : Type 0 where
-  pub size-least : least ≤ logn
-  pub size-most : logn ≤ 6
-  pub line-least : 4 ≤ logl
-  pub line-most : logl ≤ 6
-  pub src-room : samplesOf logn logl ≤ n
-  pub dst-room : samplesOf logn logl ≤ m

@@ -1,6 +1,5 @@
-// Both stages of the inverse transform, 16 lines at a time: the sums of sizes 16, 32 and 64 by whole blocks, every other call as `itx` has it.
+// Both stages of the inverse transform, 16 lines at a time: stage one of sizes 16, 32 and 64, stage two of 32 and 64, of 16 lines or more.
 mod gather;
-mod guard;
 mod stage_one;
 mod stage_two;
 mod store;

@@ -1,21 +1,18 @@
 // Stage one of the inverse transform by blocks of 16 lines. Document 01, "The two stages".
-// Differs from the Rust in: the sums of 16 lines are made side by side, and by `levels`; calls that are refused, of a size below 16 or of fewer
-// lines are `itx`'s.
+// Differs from the Rust in: the sums of 16 lines are made side by side, and by `levels`; a call that breaks a test, of a size below 16 or of
+// fewer lines is not done.
 ghost use mathlib.Core.Path.{_≡_};
 ghost use Prim.Native.Nat.{_*_, _%_, _^_, _≤_};
-ghost use lib.ListN.{length};
 ghost use Rattle.integers.specs.Lists.{written};
-ghost use Rattle.evc.specs.Answers.{answerNumber};
 ghost use Rattle.evc.specs.Table.{tm};
-ghost use Rattle.evc.specs.Stages.{stageOneAt, stageOneNumber, itxb0Exit};
+ghost use Rattle.evc.specs.Stages.{stageOneAt};
 ghost use Rattle.halving.specs.Lines.{Rooms};
+ghost use Rattle.halving.specs.Own.{ownOne, doneOne};
 ghost use Rattle.blocks.specs.Blocks.{Room, Blocked};
 use super::gather::gather;
-use super::guard::wide;
 use super::store::store16;
 use super::store::store32;
 use super::store::store64;
-use evc::Answer;
 
 // Lines j0 .. j0 + 15 of l, of each size.
 fn one16(src: &[i16], dst: &mut [i32], l: usize, j0: usize)
@@ -74,14 +71,15 @@ fn ones(src: &[i16], dst: &mut [i32], log: usize, l: usize)
     }
 }
 
-// Stage one of size 2^log2_size on 2^log2_line lines.
-pub fn itxb0(src: &[i16], dst: &mut [i32], log2_size: usize, log2_line: usize) -> Answer
-    ensures answer { λ r. ⌜ answerNumber r ≡ stageOneNumber (length (now (src .entry))) (length (now (dst .entry))) «log2_size» «log2_line» ⌝ }
-    ensures exit { λ _. ⌜ now (dst .exit) ≡ itxb0Exit «log2_size» «log2_line» (now (src .entry)) (now (dst .entry)) ⌝ }
+// Stage one of size 2^log2_size on 2^log2_line lines, where the size is 16, 32 or 64, the lines are 16 or more, and no test is broken; whether
+// that is so.
+pub fn itxb0(src: &[i16], dst: &mut [i32], log2_size: usize, log2_line: usize) -> bool
+    ensures did { λ r. ⌜ r ≡ ownOne 4 6 4 «log2_size» «log2_line» (now (src .entry)) (now (dst .entry)) ⌝ }
+    ensures exit { λ r. ⌜ now (dst .exit) ≡ doneOne r «log2_size» «log2_line» (now (src .entry)) (now (dst .entry)) ⌝ }
 {
-    if wide(4, src.len(), dst.len(), log2_size, log2_line) {
+    if halving::mine(4, 6, 4, src.len(), dst.len(), log2_size, log2_line, 0) {
         ones(src, dst, log2_size, 1usize << log2_line);
-        return Answer::Done;
+        return true;
     }
-    itx::itxb0(src, dst, log2_size, log2_line)
+    false
 }

@@ -1,23 +1,19 @@
 // Stage two of the inverse transform by blocks of 16 lines: its sums are those of stage one, of the inputs' upper halves and of their rests.
 // Document 01, "The two stages".
-// Differs from the Rust in: the sums of 16 lines are made side by side, and by `levels`; the last sum is formed in 64 bits from two of 32; calls
-// that are refused, of a size below 32 or of fewer lines are `itx`'s.
+// Differs from the Rust in: the sums of 16 lines are made side by side, and by `levels`; the last sum is formed in 64 bits from two of 32; a
+// call that breaks a test, of a size below 32 or of fewer lines is not done.
 ghost use mathlib.Core.Path.{_≡_};
 ghost use Prim.Native.Nat.{_*_, _%_, _≤_};
-ghost use lib.ListN.{length};
 ghost use Rattle.integers.specs.Lists.{written};
-ghost use Rattle.evc.specs.Answers.{answerNumber};
 ghost use Rattle.evc.specs.Table.{tm};
-ghost use Rattle.evc.specs.Stages.{stageTwoAt, stageTwoNumber, itxb1Exit};
+ghost use Rattle.evc.specs.Stages.{stageTwoAt};
 ghost use Rattle.halving.specs.Lines.{Rooms};
+ghost use Rattle.halving.specs.Own.{ownTwo, doneTwo};
 ghost use Rattle.blocks.specs.Blocks.{Offsets, Room, Blocked};
 use super::gather::highs;
 use super::gather::lows;
-use super::guard::wide;
-use super::tail::half;
 use super::tail::offsets;
 use super::tail::tail;
-use evc::Answer;
 
 // Lines j0 .. j0 + 15 of l, of size 32.
 fn two32(src: &[i32], c: &[i64], dst: &mut [i16], l: usize, j0: usize, shift: u8)
@@ -41,7 +37,7 @@ fn twos32(src: &[i32], dst: &mut [i16], l: usize, shift: u8)
 {
     let col = table::columns32();
     let mut c = [0i64; 32];
-    offsets(&col, &mut c, 32, half(shift));
+    offsets(&col, &mut c, 32, halving::rounding(shift));
     let b = l / 16;
     for i in 0..b {
         two32(src, &c, dst, l, i * 16, shift);
@@ -70,29 +66,27 @@ fn twos64(src: &[i32], dst: &mut [i16], l: usize, shift: u8)
 {
     let col = table::columns64();
     let mut c = [0i64; 64];
-    offsets(&col, &mut c, 64, half(shift));
+    offsets(&col, &mut c, 64, halving::rounding(shift));
     let b = l / 16;
     for i in 0..b {
         two64(src, &c, dst, l, i * 16, shift);
     }
 }
 
-// Stage two of size 2^log2_size on 2^log2_line lines.
-pub fn itxb1(src: &[i32], dst: &mut [i16], log2_size: usize, log2_line: usize, shift: u8) -> Answer
-    ensures answer { λ r. ⌜ answerNumber r ≡ stageTwoNumber (length (now (src .entry))) (length (now (dst .entry))) «log2_size» «log2_line» shift ⌝ }
-    ensures exit { λ _. ⌜ now (dst .exit) ≡ itxb1Exit «log2_size» «log2_line» shift (now (src .entry)) (now (dst .entry)) ⌝ }
+// Stage two of size 2^log2_size on 2^log2_line lines, where the size is 32 or 64, the lines are 16 or more, and no test is broken; whether that
+// is so.
+pub fn itxb1(src: &[i32], dst: &mut [i16], log2_size: usize, log2_line: usize, shift: u8) -> bool
+    ensures did { λ r. ⌜ r ≡ ownTwo 5 6 4 «log2_size» «log2_line» shift (now (src .entry)) (now (dst .entry)) ⌝ }
+    ensures exit { λ r. ⌜ now (dst .exit) ≡ doneTwo r «log2_size» «log2_line» shift (now (src .entry)) (now (dst .entry)) ⌝ }
 {
-    if 31 < shift {
-        return itx::itxb1(src, dst, log2_size, log2_line, shift);
-    }
-    if wide(5, src.len(), dst.len(), log2_size, log2_line) {
+    if halving::mine(5, 6, 4, src.len(), dst.len(), log2_size, log2_line, shift) {
         let l = 1usize << log2_line;
         if log2_size == 5 {
             twos32(src, dst, l, shift);
         } else {
             twos64(src, dst, l, shift);
         }
-        return Answer::Done;
+        return true;
     }
-    itx::itxb1(src, dst, log2_size, log2_line, shift)
+    false
 }

@@ -4,17 +4,8 @@ ghost use Prim.Native.Nat.{_+_, _*_, _%_, _<_, _≤_};
 ghost use lib.ListN.{length, getD, set};
 ghost use lib.IntN.{pos, _+ℤ_, natAbs};
 ghost use Rattle.integers.specs.Lists.{tab};
-ghost use Rattle.evc.specs.Stages.{rounding};
 ghost use Rattle.halving.specs.Lines.{Next};
 ghost use Rattle.blocks.specs.Blocks.{crossed, joined, Ready};
-
-// What stage two adds before it shifts: half of 2^shift, 0 for shift 0.
-pub(crate) fn half(shift: u8) -> i64
-    requires { ⌜ shift ≤ 31 ⌝ }
-    ensures { λ r. ⌜ r ≡ rounding shift ⌝ }
-{
-    (1i64 << shift) >> 1
-}
 
 // The columns' share and the rounding number, by place.
 pub(crate) fn offsets(col: &[i32], c: &mut [i64], n: usize, add: i64)

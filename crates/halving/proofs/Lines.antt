@@ -83,13 +83,6 @@ module _ (f : ℤ → ℤ) (T : ℕ → ℕ → ℤ) (N l j : ℕ) (src : List �
   pub lined : {d₀ d e x : List ℤ} → Gathered x src N N l j → Sums e T 1 N x → Next d₀ d (j * N) N (λ k. f (getD e k (pos 0))) → Lined left d₀ d N j
   lined g s n = next-ext n (stored g s)
 
--- a log that is known
-pub room-at : {src dst : List ℤ} {l j : ℕ} (log k : ℕ) → log ≡ k → Room src dst (2 ^ log) l j → Room src dst (2 ^ k) l j
-room-at {src} {dst} {l} {j} log k e r = subst (λ (g : ℕ). Room src dst (2 ^ g) l j) e r
-
-pub lined-at : (F : ℕ → ℕ → ℤ) {d₀ d : List ℤ} (j log k : ℕ) → log ≡ k → Lined (F k) d₀ d (2 ^ k) j → Lined (F log) d₀ d (2 ^ log) j
-lined-at F {d₀} {d} j log k e r = subst (λ (g : ℕ). Lined (F g) d₀ d (2 ^ g) j) (sym e) r
-
 -- the room of line j, where there is room for all lines
 pub room-of : {src d₀ : List ℤ} (d : List ℤ) (n l j : ℕ) → length d ≡ length d₀ → j < l → Rooms src d₀ n l → Room src d n l j
 room-of d n l j e h r = record { among = h; src-room = r .src-room; dst-room = omega (arith, e, r .dst-room, suc-mul j n, mul-le-mul-right {m = suc j} {n = l} n h, mul-comm l n) }
@@ -115,6 +108,13 @@ rooms a b l e r s = record { src-room = rw (e, ← pow-add 2 a b) r; dst-room = 
 
 pub stage-end : (F : ℕ → ℕ → ℤ) (d₀ : List ℤ) {d : List ℤ} (a b l : ℕ) → l ≡ 2 ^ b → d ≡ written (2 ^ a * l) (F l) d₀ → d ≡ written (2 ^ (a + b)) (F (2 ^ b)) d₀
 stage-end F d₀ a b l e p = rw (pow-add 2 a b, ← e) p
+
+-- a log that is known
+pub sized-rooms : {src dst : List ℤ} {l : ℕ} (a k : ℕ) → a ≡ k → Rooms src dst (2 ^ a) l → Rooms src dst (2 ^ k) l
+sized-rooms {src} {dst} {l} a k e r = subst (λ (g : ℕ). Rooms src dst (2 ^ g) l) e r
+
+pub sized-end : (F : ℕ → ℕ → ℤ) (d₀ : List ℤ) {d : List ℤ} (l a k : ℕ) → a ≡ k → d ≡ written (2 ^ k * l) (F k) d₀ → d ≡ written (2 ^ a * l) (F a) d₀
+sized-end F d₀ {d} l a k e p = subst (λ (g : ℕ). d ≡ written (2 ^ g * l) (F g) d₀) (sym e) p
 
 -- ---- the rounding number of stage two
 round-test : T (below (λ s. leb (natAbs (rounding s)) 2147483648) 32)

@@ -1,4 +1,4 @@
-// Both stages of the inverse transform. A line is gathered, its sums are made by halving, and they are stored.
+// Both stages of the inverse transform, line by line, of sizes 16, 32 and 64. A line is gathered, its sums are made by halving, and they are stored.
 mod gather;
 mod line;
 mod own;

@@ -2,7 +2,7 @@
 // their input and in their tail. Document 01, "The two stages"; document 02, request Ten, for the tables.
 // Differs from the Rust in: one halving step for every size; any table with the mirror property, row k at place k·w; size 2 is read from the table.
 ghost use mathlib.Core.Path.{_≡_};
-ghost use Prim.Native.Nat.{_+_, _<_};
+ghost use Prim.Native.Nat.{_+_, _<_, _≤_};
 ghost use lib.ListN.{length};
 ghost use Rattle.halving.specs.Line.{rows, line, odd, Small, Term, Inputs, Table, Level, Sums, Part};
 
@@ -38,29 +38,14 @@ fn step(t: &[i8], w: usize, x: &[i64], e: &mut [i64], m: usize, q: usize, n: usi
     e[2 * m - 1 - n] = v - o;
 }
 
-// The halving step, from the product of size m, with every second row and input, to that of size 2m.
-fn level(t: &[i8], w: usize, x: &[i64], e: &mut [i64], m: usize, q: usize)
-    requires { ⌜ Level (now t) w (now x) m q × Sums (now e) (rows (now t) w) (q + q) m (now x) ⌝ }
-    ensures { λ _. ⌜ Sums (now (e .exit)) (rows (now (t .entry)) w) q (m + m) (now (x .entry)) ⌝ }
+// The halving step, from the product of size m, with every second row and input, to that of size 2m: its places from a to b.
+fn steps(t: &[i8], w: usize, x: &[i64], e: &mut [i64], m: usize, q: usize, a: usize, b: usize)
+    requires { ⌜ (Level (now t) w (now x) m q × ((a ≤ b) × (b ≤ m))) × Part (now e) (rows (now t) w) q m a (now x) ⌝ }
+    ensures { λ _. ⌜ Part (now (e .exit)) (rows (now (t .entry)) w) q m b (now (x .entry)) ⌝ }
 {
-    for n in 0..m {
+    for n in a..b {
         step(t, w, x, e, m, q, n);
     }
-}
-
-// The same from size 8 to 16, written out: so a compiler sees which numbers of the table it reads.
-fn level8(t: &[i8], w: usize, x: &[i64], e: &mut [i64], q: usize)
-    requires { ⌜ Level (now t) w (now x) 8 q × Sums (now e) (rows (now t) w) (q + q) 8 (now x) ⌝ }
-    ensures { λ _. ⌜ Sums (now (e .exit)) (rows (now (t .entry)) w) q 16 (now (x .entry)) ⌝ }
-{
-    step(t, w, x, e, 8, q, 0);
-    step(t, w, x, e, 8, q, 1);
-    step(t, w, x, e, 8, q, 2);
-    step(t, w, x, e, 8, q, 3);
-    step(t, w, x, e, 8, q, 4);
-    step(t, w, x, e, 8, q, 5);
-    step(t, w, x, e, 8, q, 6);
-    step(t, w, x, e, 8, q, 7);
 }
 
 // The product of size 2, of the inputs at 0 and q: four numbers of the table.
@@ -72,39 +57,17 @@ fn start(t: &[i8], w: usize, x: &[i64], e: &mut [i64], q: usize)
     e[1] = term(t, x, 1, 0) + term(t, x, q * w + 1, q);
 }
 
-// A line of each size. The numbers are literals, so that a compiler unrolls each size by itself.
-pub(crate) fn line2(t: &[i8], w: usize, x: &[i64], e: &mut [i64])
-    requires { ⌜ (Table (now t) w 2 × Inputs (now x) 2) × (length (now e) ≡ 2) ⌝ }
-    ensures { λ _. ⌜ Sums (now (e .exit)) (rows (now (t .entry)) w) 1 2 (now (x .entry)) ⌝ }
-{
-    start(t, w, x, e, 1);
-}
-
-pub(crate) fn line4(t: &[i8], w: usize, x: &[i64], e: &mut [i64])
-    requires { ⌜ (Table (now t) w 4 × Inputs (now x) 4) × (length (now e) ≡ 4) ⌝ }
-    ensures { λ _. ⌜ Sums (now (e .exit)) (rows (now (t .entry)) w) 1 4 (now (x .entry)) ⌝ }
-{
-    start(t, w, x, e, 2);
-    level(t, w, x, e, 2, 1);
-}
-
-pub(crate) fn line8(t: &[i8], w: usize, x: &[i64], e: &mut [i64])
-    requires { ⌜ (Table (now t) w 8 × Inputs (now x) 8) × (length (now e) ≡ 8) ⌝ }
-    ensures { λ _. ⌜ Sums (now (e .exit)) (rows (now (t .entry)) w) 1 8 (now (x .entry)) ⌝ }
-{
-    start(t, w, x, e, 4);
-    level(t, w, x, e, 2, 2);
-    level(t, w, x, e, 4, 1);
-}
-
+// A line of each size. The numbers are literals, and of sizes 16 and 32 each loop is short enough for a compiler to write it out: it then knows
+// which numbers of the table it reads.
 pub(crate) fn line16(t: &[i8], w: usize, x: &[i64], e: &mut [i64])
     requires { ⌜ (Table (now t) w 16 × Inputs (now x) 16) × (length (now e) ≡ 16) ⌝ }
     ensures { λ _. ⌜ Sums (now (e .exit)) (rows (now (t .entry)) w) 1 16 (now (x .entry)) ⌝ }
 {
     start(t, w, x, e, 8);
-    level(t, w, x, e, 2, 4);
-    level(t, w, x, e, 4, 2);
-    level8(t, w, x, e, 1);
+    steps(t, w, x, e, 2, 4, 0, 2);
+    steps(t, w, x, e, 4, 2, 0, 4);
+    steps(t, w, x, e, 8, 1, 0, 4);
+    steps(t, w, x, e, 8, 1, 4, 8);
 }
 
 pub(crate) fn line32(t: &[i8], w: usize, x: &[i64], e: &mut [i64])
@@ -112,10 +75,14 @@ pub(crate) fn line32(t: &[i8], w: usize, x: &[i64], e: &mut [i64])
     ensures { λ _. ⌜ Sums (now (e .exit)) (rows (now (t .entry)) w) 1 32 (now (x .entry)) ⌝ }
 {
     start(t, w, x, e, 16);
-    level(t, w, x, e, 2, 8);
-    level(t, w, x, e, 4, 4);
-    level(t, w, x, e, 8, 2);
-    level(t, w, x, e, 16, 1);
+    steps(t, w, x, e, 2, 8, 0, 2);
+    steps(t, w, x, e, 4, 4, 0, 4);
+    steps(t, w, x, e, 8, 2, 0, 4);
+    steps(t, w, x, e, 8, 2, 4, 8);
+    steps(t, w, x, e, 16, 1, 0, 4);
+    steps(t, w, x, e, 16, 1, 4, 8);
+    steps(t, w, x, e, 16, 1, 8, 12);
+    steps(t, w, x, e, 16, 1, 12, 16);
 }
 
 pub(crate) fn line64(t: &[i8], w: usize, x: &[i64], e: &mut [i64])
@@ -123,9 +90,9 @@ pub(crate) fn line64(t: &[i8], w: usize, x: &[i64], e: &mut [i64])
     ensures { λ _. ⌜ Sums (now (e .exit)) (rows (now (t .entry)) w) 1 64 (now (x .entry)) ⌝ }
 {
     start(t, w, x, e, 32);
-    level(t, w, x, e, 2, 16);
-    level(t, w, x, e, 4, 8);
-    level(t, w, x, e, 8, 4);
-    level(t, w, x, e, 16, 2);
-    level(t, w, x, e, 32, 1);
+    steps(t, w, x, e, 2, 16, 0, 2);
+    steps(t, w, x, e, 4, 8, 0, 4);
+    steps(t, w, x, e, 8, 4, 0, 8);
+    steps(t, w, x, e, 16, 2, 0, 16);
+    steps(t, w, x, e, 32, 1, 0, 32);
 }

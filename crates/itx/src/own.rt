@@ -1,42 +1,15 @@
-// The sums of a line with document 01's own table. Document 01, "The transform tables". Up to size 16 the table stands beside the code that
-// reads it, at places that are literals: a compiler makes its numbers constants, and no table is left at run time. For 32 and 64 it is lent.
+// The sums of a line with document 01's own table. Document 01, "The transform tables". Of sizes 16 and 32 the table stands beside the code
+// that reads it, at places that are literals: a compiler makes its numbers constants, and no table is left at run time. For 64 it is lent.
 ghost use mathlib.Core.Path.{_≡_};
 ghost use lib.ListN.{length};
 ghost use Rattle.evc.specs.Table.{tm};
 ghost use Rattle.table.specs.Flat.{flat};
 ghost use Rattle.halving.specs.Line.{Inputs, Sums};
-use super::line::line2;
-use super::line::line4;
-use super::line::line8;
 use super::line::line16;
 use super::line::line32;
 use super::line::line64;
 
-pub(crate) fn own2(x: &[i64], e: &mut [i64])
-    requires { ⌜ Inputs (now x) 2 × (length (now e) ≡ 2) ⌝ }
-    ensures { λ _. ⌜ Sums (now (e .exit)) (tm 2) 1 2 (now (x .entry)) ⌝ }
-{
-    let t = table::table();
-    line2(&t, 2048, x, e);
-}
-
-pub(crate) fn own4(x: &[i64], e: &mut [i64])
-    requires { ⌜ Inputs (now x) 4 × (length (now e) ≡ 4) ⌝ }
-    ensures { λ _. ⌜ Sums (now (e .exit)) (tm 4) 1 4 (now (x .entry)) ⌝ }
-{
-    let t = table::table();
-    line4(&t, 1024, x, e);
-}
-
-pub(crate) fn own8(x: &[i64], e: &mut [i64])
-    requires { ⌜ Inputs (now x) 8 × (length (now e) ≡ 8) ⌝ }
-    ensures { λ _. ⌜ Sums (now (e .exit)) (tm 8) 1 8 (now (x .entry)) ⌝ }
-{
-    let t = table::table();
-    line8(&t, 512, x, e);
-}
-
-pub(crate) fn own16(x: &[i64], e: &mut [i64])
+pub(crate) fn own16(x: &[i64; 16], e: &mut [i64])
     requires { ⌜ Inputs (now x) 16 × (length (now e) ≡ 16) ⌝ }
     ensures { λ _. ⌜ Sums (now (e .exit)) (tm 16) 1 16 (now (x .entry)) ⌝ }
 {
@@ -44,14 +17,15 @@ pub(crate) fn own16(x: &[i64], e: &mut [i64])
     line16(&t, 256, x, e);
 }
 
-pub(crate) fn own32(t: &[i8], x: &[i64], e: &mut [i64])
-    requires { ⌜ (now t ≡ flat) × (Inputs (now x) 32 × (length (now e) ≡ 32)) ⌝ }
+pub(crate) fn own32(x: &[i64; 32], e: &mut [i64])
+    requires { ⌜ Inputs (now x) 32 × (length (now e) ≡ 32) ⌝ }
     ensures { λ _. ⌜ Sums (now (e .exit)) (tm 32) 1 32 (now (x .entry)) ⌝ }
 {
-    line32(t, 128, x, e);
+    let t = table::table();
+    line32(&t, 128, x, e);
 }
 
-pub(crate) fn own64(t: &[i8], x: &[i64], e: &mut [i64])
+pub(crate) fn own64(t: &[i8; 4096], x: &[i64; 64], e: &mut [i64])
     requires { ⌜ (now t ≡ flat) × (Inputs (now x) 64 × (length (now e) ≡ 64)) ⌝ }
     ensures { λ _. ⌜ Sums (now (e .exit)) (tm 64) 1 64 (now (x .entry)) ⌝ }
 {

@@ -1,164 +1,73 @@
-// Stage one of the inverse transform: the Rust's `itx_pb2b0` .. `itx_pb64b0`, and one call that picks the size. Document 01, "The two stages".
-// Differs from the Rust in: sizes and areas are tested first, and a call that breaks a test is refused and changes nothing; a function of each
-// size does one line.
+// Stage one of the inverse transform, line by line: the Rust's `itx_pb16b0`, `itx_pb32b0` and `itx_pb64b0`, and one call that picks the size.
+// Document 01, "The two stages".
+// Differs from the Rust in: a call that breaks a test is not done; a line is copied first.
 ghost use mathlib.Core.Path.{_≡_};
-ghost use Prim.Native.Nat.{_*_, _^_, _≤_};
-ghost use lib.ListN.{length};
+ghost use Prim.Native.Nat.{_*_};
 ghost use Rattle.integers.specs.Lists.{written};
-ghost use Rattle.evc.specs.Answers.{answerNumber};
 ghost use Rattle.evc.specs.Table.{tm};
-ghost use Rattle.evc.specs.Stages.{stageOneAt, stageOneNumber, itxb0Exit};
-ghost use Rattle.table.specs.Flat.{flat};
-ghost use Rattle.halving.specs.Lines.{Room, Rooms, Lined};
+ghost use Rattle.evc.specs.Stages.{stageOneAt};
+ghost use Rattle.halving.specs.Lines.{Rooms};
+ghost use Rattle.halving.specs.Own.{ownOne, doneOne};
 use super::gather::gather_i16;
-use super::own::own2;
-use super::own::own4;
-use super::own::own8;
 use super::own::own16;
 use super::own::own32;
 use super::own::own64;
 use super::store::store_i32;
-use evc::Answer;
-use evc::Refusal;
 
-// Line j of l, of each size.
-fn itx_pb2b0(src: &[i16], dst: &mut [i32], l: usize, j: usize)
-    requires { ⌜ Room (now src) (now dst) 2 l j ⌝ }
-    ensures { λ _. ⌜ Lined (stageOneAt (tm 2) 2 l (now (src .entry))) (now (dst .entry)) (now (dst .exit)) 2 j ⌝ }
-{
-    let mut x = [0i64; 2];
-    gather_i16(src, &mut x, 2, l, j);
-    let mut e = [0i64; 2];
-    own2(&x, &mut e);
-    store_i32(&e, dst, 2, j);
-}
-
-fn itx_pb4b0(src: &[i16], dst: &mut [i32], l: usize, j: usize)
-    requires { ⌜ Room (now src) (now dst) 4 l j ⌝ }
-    ensures { λ _. ⌜ Lined (stageOneAt (tm 4) 4 l (now (src .entry))) (now (dst .entry)) (now (dst .exit)) 4 j ⌝ }
-{
-    let mut x = [0i64; 4];
-    gather_i16(src, &mut x, 4, l, j);
-    let mut e = [0i64; 4];
-    own4(&x, &mut e);
-    store_i32(&e, dst, 4, j);
-}
-
-fn itx_pb8b0(src: &[i16], dst: &mut [i32], l: usize, j: usize)
-    requires { ⌜ Room (now src) (now dst) 8 l j ⌝ }
-    ensures { λ _. ⌜ Lined (stageOneAt (tm 8) 8 l (now (src .entry))) (now (dst .entry)) (now (dst .exit)) 8 j ⌝ }
-{
-    let mut x = [0i64; 8];
-    gather_i16(src, &mut x, 8, l, j);
-    let mut e = [0i64; 8];
-    own8(&x, &mut e);
-    store_i32(&e, dst, 8, j);
-}
-
-fn itx_pb16b0(src: &[i16], dst: &mut [i32], l: usize, j: usize)
-    requires { ⌜ Room (now src) (now dst) 16 l j ⌝ }
-    ensures { λ _. ⌜ Lined (stageOneAt (tm 16) 16 l (now (src .entry))) (now (dst .entry)) (now (dst .exit)) 16 j ⌝ }
-{
-    let mut x = [0i64; 16];
-    gather_i16(src, &mut x, 16, l, j);
-    let mut e = [0i64; 16];
-    own16(&x, &mut e);
-    store_i32(&e, dst, 16, j);
-}
-
-fn itx_pb32b0(t: &[i8], src: &[i16], dst: &mut [i32], l: usize, j: usize)
-    requires { ⌜ (now t ≡ flat) × Room (now src) (now dst) 32 l j ⌝ }
-    ensures { λ _. ⌜ Lined (stageOneAt (tm 32) 32 l (now (src .entry))) (now (dst .entry)) (now (dst .exit)) 32 j ⌝ }
-{
-    let mut x = [0i64; 32];
-    gather_i16(src, &mut x, 32, l, j);
-    let mut e = [0i64; 32];
-    own32(t, &x, &mut e);
-    store_i32(&e, dst, 32, j);
-}
-
-fn itx_pb64b0(t: &[i8], src: &[i16], dst: &mut [i32], l: usize, j: usize)
-    requires { ⌜ (now t ≡ flat) × Room (now src) (now dst) 64 l j ⌝ }
-    ensures { λ _. ⌜ Lined (stageOneAt (tm 64) 64 l (now (src .entry))) (now (dst .entry)) (now (dst .exit)) 64 j ⌝ }
-{
-    let mut x = [0i64; 64];
-    gather_i16(src, &mut x, 64, l, j);
-    let mut e = [0i64; 64];
-    own64(t, &x, &mut e);
-    store_i32(&e, dst, 64, j);
-}
-
-// Line j of a size up to 16.
-fn short_line(src: &[i16], dst: &mut [i32], log: usize, l: usize, j: usize)
-    requires { ⌜ (((1 ≤ log) × (log ≤ 4)) × Room (now src) (now dst) (2 ^ log) l j) ⌝ }
-    ensures { λ _. ⌜ Lined (stageOneAt (tm (2 ^ log)) (2 ^ log) l (now (src .entry))) (now (dst .entry)) (now (dst .exit)) (2 ^ log) j ⌝ }
-{
-    match log {
-        1 => itx_pb2b0(src, dst, l, j),
-        2 => itx_pb4b0(src, dst, l, j),
-        3 => itx_pb8b0(src, dst, l, j),
-        _ => itx_pb16b0(src, dst, l, j),
-    }
-}
-
-// Line j of size 32 or 64.
-fn long_line(t: &[i8], src: &[i16], dst: &mut [i32], log: usize, l: usize, j: usize)
-    requires { ⌜ ((now t ≡ flat) × (((5 ≤ log) × (log ≤ 6)) × Room (now src) (now dst) (2 ^ log) l j)) ⌝ }
-    ensures { λ _. ⌜ Lined (stageOneAt (tm (2 ^ log)) (2 ^ log) l (now (src .entry))) (now (dst .entry)) (now (dst .exit)) (2 ^ log) j ⌝ }
-{
-    match log {
-        5 => itx_pb32b0(t, src, dst, l, j),
-        _ => itx_pb64b0(t, src, dst, l, j),
-    }
-}
-
-// All lines of a size up to 16.
-fn short(src: &[i16], dst: &mut [i32], log: usize, l: usize)
-    requires { ⌜ (((1 ≤ log) × (log ≤ 4)) × Rooms (now src) (now dst) (2 ^ log) l) ⌝ }
-    ensures { λ _. ⌜ now (dst .exit) ≡ written ((2 ^ log) * l) (stageOneAt (tm (2 ^ log)) (2 ^ log) l (now (src .entry))) (now (dst .entry)) ⌝ }
+// All lines, one after the other, of each size.
+fn itx_pb16b0(src: &[i16], dst: &mut [i32], l: usize)
+    requires { ⌜ Rooms (now src) (now dst) 16 l ⌝ }
+    ensures { λ _. ⌜ now (dst .exit) ≡ written (16 * l) (stageOneAt (tm 16) 16 l (now (src .entry))) (now (dst .entry)) ⌝ }
 {
     for j in 0..l {
-        short_line(src, dst, log, l, j);
+        let mut x = [0i64; 16];
+        gather_i16(src, &mut x, 16, l, j);
+        let mut e = [0i64; 16];
+        own16(&x, &mut e);
+        store_i32(&e, dst, 16, j);
     }
 }
 
-// All lines of size 32 or 64.
-fn long(src: &[i16], dst: &mut [i32], log: usize, l: usize)
-    requires { ⌜ (((5 ≤ log) × (log ≤ 6)) × Rooms (now src) (now dst) (2 ^ log) l) ⌝ }
-    ensures { λ _. ⌜ now (dst .exit) ≡ written ((2 ^ log) * l) (stageOneAt (tm (2 ^ log)) (2 ^ log) l (now (src .entry))) (now (dst .entry)) ⌝ }
+fn itx_pb32b0(src: &[i16], dst: &mut [i32], l: usize)
+    requires { ⌜ Rooms (now src) (now dst) 32 l ⌝ }
+    ensures { λ _. ⌜ now (dst .exit) ≡ written (32 * l) (stageOneAt (tm 32) 32 l (now (src .entry))) (now (dst .entry)) ⌝ }
+{
+    for j in 0..l {
+        let mut x = [0i64; 32];
+        gather_i16(src, &mut x, 32, l, j);
+        let mut e = [0i64; 32];
+        own32(&x, &mut e);
+        store_i32(&e, dst, 32, j);
+    }
+}
+
+fn itx_pb64b0(src: &[i16], dst: &mut [i32], l: usize)
+    requires { ⌜ Rooms (now src) (now dst) 64 l ⌝ }
+    ensures { λ _. ⌜ now (dst .exit) ≡ written (64 * l) (stageOneAt (tm 64) 64 l (now (src .entry))) (now (dst .entry)) ⌝ }
 {
     let t = table::table();
     for j in 0..l {
-        long_line(&t, src, dst, log, l, j);
+        let mut x = [0i64; 64];
+        gather_i16(src, &mut x, 64, l, j);
+        let mut e = [0i64; 64];
+        own64(&t, &x, &mut e);
+        store_i32(&e, dst, 64, j);
     }
 }
 
-// Stage one of size 2^log2_size on 2^log2_line lines.
-pub fn itxb0(src: &[i16], dst: &mut [i32], log2_size: usize, log2_line: usize) -> Answer
-    ensures answer { λ r. ⌜ answerNumber r ≡ stageOneNumber (length (now (src .entry))) (length (now (dst .entry))) «log2_size» «log2_line» ⌝ }
-    ensures exit { λ _. ⌜ now (dst .exit) ≡ itxb0Exit «log2_size» «log2_line» (now (src .entry)) (now (dst .entry)) ⌝ }
+// Stage one of size 2^log2_size on 2^log2_line lines, where the size is 16, 32 or 64 and no test is broken; whether that is so.
+pub fn itxb0(src: &[i16], dst: &mut [i32], log2_size: usize, log2_line: usize) -> bool
+    ensures did { λ r. ⌜ r ≡ ownOne 4 6 0 «log2_size» «log2_line» (now (src .entry)) (now (dst .entry)) ⌝ }
+    ensures exit { λ r. ⌜ now (dst .exit) ≡ doneOne r «log2_size» «log2_line» (now (src .entry)) (now (dst .entry)) ⌝ }
 {
-    if log2_size < 1 {
-        return Answer::Refused(Refusal::Size);
+    if halving::mine(4, 6, 0, src.len(), dst.len(), log2_size, log2_line, 0) {
+        let l = 1usize << log2_line;
+        match log2_size {
+            4 => itx_pb16b0(src, dst, l),
+            5 => itx_pb32b0(src, dst, l),
+            _ => itx_pb64b0(src, dst, l),
+        }
+        return true;
     }
-    if 6 < log2_size {
-        return Answer::Refused(Refusal::Size);
-    }
-    if 6 < log2_line {
-        return Answer::Refused(Refusal::Size);
-    }
-    let n = 1usize << (log2_size + log2_line);
-    if src.len() < n {
-        return Answer::Refused(Refusal::Area);
-    }
-    if dst.len() < n {
-        return Answer::Refused(Refusal::Area);
-    }
-    let l = 1usize << log2_line;
-    if log2_size < 5 {
-        short(src, dst, log2_size, l);
-    } else {
-        long(src, dst, log2_size, l);
-    }
-    Answer::Done
+    false
 }

@@ -1,11 +1,9 @@
-// The sums of line j, stored as one run of the output: the tails of the Rust's `itx_pb2b0` .. `itx_pb64b1`. Document 01, "The two stages".
-// Differs from the Rust in: shift 0 adds 0 in stage two.
+// The sums of line j, stored as one run of the output: the tails of the Rust's `itx_pb16b0` .. `itx_pb64b1`. Document 01, "The two stages".
 ghost use mathlib.Core.Path.{_≡_};
 ghost use Prim.Native.Nat.{_+_, _*_, _≤_};
 ghost use lib.ListN.{length, getD};
 ghost use lib.IntN.{pos, natAbs};
 ghost use Rattle.integers.specs.Z.{clip32};
-ghost use Rattle.evc.specs.Stages as stages;
 ghost use Rattle.halving.specs.Lines.{shifted, Amount, Bounded, Next};
 
 // Stage one: clipped to 32 bits.
@@ -16,17 +14,6 @@ pub(crate) fn store_i32(e: &[i64], dst: &mut [i32], n: usize, j: usize)
     for k in 0..n {
         dst[j * n + k] = integers::clip32(e[k]);
     }
-}
-
-// What stage two adds before it shifts.
-pub(crate) fn rounding(shift: u8) -> i64
-    requires { ⌜ shift ≤ 31 ⌝ }
-    ensures { λ r. ⌜ r ≡ stages.rounding shift ⌝ }
-{
-    if shift == 0 {
-        return 0;
-    }
-    1i64 << (shift - 1)
 }
 
 // A sum of stage two, rounded, divided by 2^shift toward minus infinity, and clipped to 16 bits.

@@ -1,100 +1,84 @@
--- `blocks::stage_two::itxb1` meets its contract: by blocks where the guard holds, and else as `itx` does. Assumes nothing.
+-- `blocks::stage_two::itxb1` meets its contract: by blocks where the guard holds. Assumes nothing.
 use borrow.Author.Needs.{needs}
-use mathlib.Core.List.{List}
-use Prim.Native.Nat.{ℕ, _^_}
+use mathlib.Core.Path.{_≡_, sym, _∙_}
+use mathlib.Core.Bool.{true}
+use Prim.Native.Nat.{ℕ, _*_, _^_, _%_}
 use native.Mathlib.Omega.{arith}
 use lib.ListN.{length}
 use lib.IntN.{ℤ}
 use Rattle.evc.specs.Table.{tm}
-use Rattle.evc.specs.Tests.{Test}
-use Rattle.evc.specs.Stages.{stageTwoAt, stageTwoTests, stageTwoNumber, stageTwoExit}
-use Rattle.evc.proofs.Tests.{accepted-end}
-use Rattle.halving.proofs.Lines.{stage-end}
-use Rattle.blocks.specs.Blocks.{Wide}
-use Rattle.blocks.proofs.Calls.{lines, blocks, two-passed, wide-rooms, sized-rooms, sized-end}
+use Rattle.evc.specs.Stages.{stageTwoAt, stageTwoNumber}
+use Rattle.halving.specs.Own.{own, Call}
+use Rattle.halving.proofs.Lines.{sized-rooms, sized-end}
+use Rattle.halving.proofs.Own.{call, call-rooms, two-did, two-left}
+use Rattle.blocks.proofs.Calls.{blocks}
 use Rattle.blocks.proofs.stage_two.itxb1.Statement.{statement}
 use Rattle.blocks.proofs.stage_two.itxb1.Tie as tie
 
--- what the guard says
-fits : (c : tie.Then2) → Wide 5 (length (c .before .before .before .args .src .now)) (length (c .before .before .before .args .dst .now)) (c .before .before .before .args .log2-size) (c .before .before .before .args .log2-line)
-fits c = c .before .wide .ensures (c .if2 .taken)
+-- where the guard has let the call pass
+module _ (c : tie.Then1) where
+  abbrev s : tie.Start
+  s = c .before .before
 
--- the call's tests, and what the stage leaves by the log of its size and its lines
-abbrev tests : tie.Start → List Test
-tests s = stageTwoTests (length (s .args .src .now)) (length (s .args .dst .now)) (s .args .log2-size) (s .args .log2-line) (s .args .shift)
+  guard : own 5 6 4 (s .args .log2-size) (s .args .log2-line) (stageTwoNumber (length (s .args .src .now)) (length (s .args .dst .now)) (s .args .log2-size) (s .args .log2-line) (s .args .shift)) ≡ true
+  guard = sym (c .before .mine .ensures) ∙ c .if1 .taken
 
-abbrev sums : tie.Start → ℕ → ℕ → ℕ → ℤ
-sums s l g = stageTwoAt (tm (2 ^ g)) (2 ^ g) l (s .args .shift) (s .args .src .now)
+  known : Call 5 6 4 (length (s .args .src .now)) (length (s .args .dst .now)) (s .args .log2-size) (s .args .log2-line) (s .args .shift)
+  known = call guard
 
-itxb1-requires : tie.Need-itxb1-requires
-itxb1-requires c κs = search needs
+  -- the number of lines, as the code has it, and what the stage leaves by the log of its size
+  abbrev l : ℕ
+  l = (1 * 2 ^ s .args .log2-line) % 2 ^ 64
+
+  abbrev left : ℕ → ℕ → ℤ
+  left g = stageTwoAt (tm (2 ^ g)) (2 ^ g) l (s .args .shift) (s .args .src .now)
+
+mine-requires : tie.Need-mine-requires
+mine-requires c κs = search needs
+
+shl-l : tie.Need-shl-l
+shl-l c = omega (arith, known c .line-most)
+
+twos32-requires : tie.Need-twos32-requires
+twos32-requires c κs = let w = known (c .before .before) in (w .shift-most, (sized-rooms _ 5 (c .before .if2 .taken) (call-rooms w), blocks w))
+
+twos64-requires : tie.Need-twos64-requires
+twos64-requires c κs = let w = known (c .before .before) in (w .shift-most, (sized-rooms _ 6 (omega (arith, w .size-least, w .size-most, c .before .if2 .left)) (call-rooms w), blocks w))
 
 same-length : tie.Need-same-length
 same-length c = search needs
 
 returns : tie.Need-returns
-returns c = search needs
-
-wide-requires : tie.Need-wide-requires
-wide-requires c κs = search needs
-
-shl-l : tie.Need-shl-l
-shl-l c = omega (arith, fits c .line-most)
-
-twos32-requires : tie.Need-twos32-requires
-twos32-requires c κs = let w = fits (c .before .before) in (omega arith, (sized-rooms _ 5 (c .before .if3 .taken) (wide-rooms w), blocks w))
-
-twos64-requires : tie.Need-twos64-requires
-twos64-requires c κs = let w = fits (c .before .before) in (omega arith, (sized-rooms _ 6 (omega (arith, w .size-least, w .size-most, c .before .if3 .left)) (wide-rooms w), blocks w))
+returns c =
+    let d = c .before .before .before .before in
+    two-did 5 6 4 (s d .args .log2-size) (s d .args .log2-line) (s d .args .src .now) (s d .args .dst .now) (s d .args .shift) (guard d)
+    (sized-end (left d) (s d .args .dst .now) (l d) (s d .args .log2-size) 5 (c .before .before .before .if2 .taken) (c .before .twos32 .ensures))
 
 same-length-2 : tie.Need-same-length-2
 same-length-2 c = search needs
 
 returns-2 : tie.Need-returns-2
-unfolding stageTwoNumber stageTwoExit
 returns-2 c =
-    let s = c .before .before .before .before .before .before .before in
-    let w = fits (c .before .before .before .before) in
-    accepted-end (tests s) _ _ _ (two-passed w (omega arith) (s .args .shift) (omega arith))
-    (stage-end (λ l. sums s l (s .args .log2-size)) (s .args .dst .now) (s .args .log2-size) (s .args .log2-line) _ (lines w)
-    (sized-end (sums s _) (s .args .dst .now) _ (s .args .log2-size) 5 (c .before .before .before .if3 .taken) (c .before .twos32 .ensures)))
-
-same-length-3 : tie.Need-same-length-3
-same-length-3 c = search needs
+    let d = c .before .before .before .before in
+    let w = known d in
+    two-did 5 6 4 (s d .args .log2-size) (s d .args .log2-line) (s d .args .src .now) (s d .args .dst .now) (s d .args .shift) (guard d)
+    (sized-end (left d) (s d .args .dst .now) (l d) (s d .args .log2-size) 6 (omega (arith, w .size-least, w .size-most, c .before .before .before .if2 .left)) (c .before .twos64 .ensures))
 
 returns-3 : tie.Need-returns-3
-unfolding stageTwoNumber stageTwoExit
 returns-3 c =
-    let s = c .before .before .before .before .before .before .before in
-    let w = fits (c .before .before .before .before) in
-    accepted-end (tests s) _ _ _ (two-passed w (omega arith) (s .args .shift) (omega arith))
-    (stage-end (λ l. sums s l (s .args .log2-size)) (s .args .dst .now) (s .args .log2-size) (s .args .log2-line) _ (lines w)
-    (sized-end (sums s _) (s .args .dst .now) _ (s .args .log2-size) 6 (omega (arith, w .size-least, w .size-most, c .before .before .before .if3 .left)) (c .before .twos64 .ensures)))
-
-itxb1-requires-2 : tie.Need-itxb1-requires-2
-itxb1-requires-2 c κs = search needs
-
-same-length-4 : tie.Need-same-length-4
-same-length-4 c = search needs
-
-returns-4 : tie.Need-returns-4
-returns-4 c = search needs
+    let s = c .before .before in
+    two-left 5 6 4 (s .args .log2-size) (s .args .log2-line) (s .args .src .now) (s .args .dst .now) (s .args .shift) (sym (c .before .mine .ensures) ∙ c .if1 .left)
 
 pub itxb1-spec : {M : Type 1} → statement M
 itxb1-spec =
     tie.close
     (tie.spec
-    itxb1-requires
-    same-length
-    returns
-    wide-requires
+    mine-requires
     shl-l
     twos32-requires
     twos64-requires
+    same-length
+    returns
     same-length-2
     returns-2
-    same-length-3
-    returns-3
-    itxb1-requires-2
-    same-length-4
-    returns-4)
+    returns-3)

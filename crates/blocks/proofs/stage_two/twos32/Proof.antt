@@ -4,12 +4,14 @@ use mathlib.Core.Path.{refl, sym, ap, _∙_}
 use Prim.Native.Nat.{_*_, _-_, _≤_}
 use native.Mathlib.Omega.{arith}
 use lib.ListN.{length}
+use mir.Syntax.{w64}
+use mir.Val.{toZ, ofZ}
 use mir.Facts.{toZ-ofZ}
 use Rattle.integers.proofs.Written.{tab-length}
 use Rattle.evc.specs.Table.{tm}
 use Rattle.evc.specs.Stages.{stageTwoAt}
-use Rattle.halving.specs.Lines.{Next}
-use Rattle.halving.proofs.Lines.{rounding-within}
+use Rattle.halving.specs.Lines.{Amount, Next}
+use Rattle.halving.proofs.Lines.{rounding-within, amount}
 use Rattle.blocks.proofs.Places.{block-none, block-word, block-room, block-more, block-all}
 use Rattle.blocks.proofs.Products.{offsets-are}
 use Rattle.blocks.proofs.stage_two.twos32.Statement.{statement}
@@ -30,13 +32,14 @@ slice-aggregate-offsets c = sym (ap length (c .before .columns32 .ensures) ∙ t
 slice-aggregate-offsets-2 : tie.Need-slice-aggregate-offsets-2 Inv-loop μ-loop
 slice-aggregate-offsets-2 c = refl
 
-half-requires : tie.Need-half-requires Inv-loop μ-loop
-half-requires c κs = c .before .before .before .pre .0
+rounding-requires : tie.Need-rounding-requires Inv-loop μ-loop
+rounding-requires c κs = tt
 
 offsets-requires : tie.Need-offsets-requires Inv-loop μ-loop
 offsets-requires c κs =
     let s = c .before .before .before .before in
-    ((ap length (c .before .before .before .columns32 .ensures) ∙ tab-length 32 _, refl), rw (toZ-ofZ (sfits-of (c .half .ok)), c .half .ensures) (rounding-within (s .args .shift) (s .pre .0) .bound))
+    let a : Amount (toZ w64 (ofZ w64 (c .rounding .result))) (s .args .shift) = amount (s .args .shift) (s .pre .0) (toZ-ofZ (sfits-of (c .rounding .ok)) ∙ c .rounding .ensures) in
+    ((ap length (c .before .before .before .columns32 .ensures) ∙ tab-length 32 _, refl), rw (a .is) (rounding-within (s .args .shift) (s .pre .0) .bound))
 
 loop-holds : tie.Need-loop-holds Inv-loop μ-loop
 loop-holds c = (omega arith, block-none 32)
@@ -51,7 +54,7 @@ two32-requires : tie.Need-two32-requires Inv-loop μ-loop
 two32-requires c κs =
     let s = c .before .before .before .before .before .before .before .before .before .before in
     let l = c .before .before .before .loop in (
-      offsets-are 32 (s .args .shift) _ _ (s .pre .0) (c .before .before .before .before .before .before .before .before .before .columns32 .ensures) (toZ-ofZ (sfits-of (c .before .before .before .before .before .before .half .ok)) ∙ c .before .before .before .before .before .before .half .ensures) (c .before .before .before .before .before .offsets .ensures),
+      offsets-are 32 (s .args .shift) _ _ (s .pre .0) (c .before .before .before .before .before .before .before .before .before .columns32 .ensures) (amount (s .args .shift) (s .pre .0) (toZ-ofZ (sfits-of (c .before .before .before .before .before .before .rounding .ok)) ∙ c .before .before .before .before .before .before .rounding .ensures) .is) (c .before .before .before .before .before .offsets .ensures),
       block-room 32 (s .args .l) (l .i) (l .dst) (l .inv .1 .long) (c .before .before .loop-test .taken) (s .pre .1 .0),
     )
 
@@ -85,7 +88,7 @@ twos32-spec =
     columns32-requires
     slice-aggregate-offsets
     slice-aggregate-offsets-2
-    half-requires
+    rounding-requires
     offsets-requires
     loop-holds
     slice-aggregate-two32

@@ -13,14 +13,14 @@ slice-aggregate-line16 c = search needs
 
 line16-requires : tie.Need-line16-requires
 line16-requires c κs =
-    ((own-table 4 (omega arith) (c .before .before .table .result) (c .before .before .table .ensures), c .before .before .before .pre .0), c .before .before .before .pre .1)
+    ((own-table 4 (omega arith) (c .before .before .before .table .result) (c .before .before .before .table .ensures), c .before .before .before .before .pre .0), c .before .before .before .before .pre .1)
 
 same-length : tie.Need-same-length
 same-length c = search needs
 
 returns : tie.Need-returns
 returns c =
-    own-sums 4 (omega arith) (c .before .before .before .before .table .result) (c .before .before .before .before .table .ensures) (c .before .line16 .ensures)
+    own-sums 4 (omega arith) (c .before .before .before .before .before .table .result) (c .before .before .before .before .before .table .ensures) (c .before .line16 .ensures)
 
 pub own16-spec : {M : Type 1} → statement M
 own16-spec =

@@ -1,134 +1,96 @@
--- `itx::stage_one::itxb0` meets its contract: each return by the tests that led there. Assumes nothing.
+-- `itx::stage_one::itxb0` meets its contract: by its lines where the guard holds. Assumes nothing.
 use borrow.Author.Needs.{needs}
-use borrow.Author.Tests.{lt-ltb, le-ltb}
-use mathlib.Core.Path.{_≡_}
+use mathlib.Core.Path.{_≡_, sym, _∙_}
+use mathlib.Core.Bool.{true}
 use mathlib.Core.List.{List}
-use Prim.Native.Nat.{_+_, _*_, _^_, _%_, _≤_}
+use Prim.Native.Nat.{ℕ, _*_, _^_, _%_}
 use native.Mathlib.Omega.{arith}
 use lib.ListN.{length}
-use mir.Syntax.{w64}
-use Rattle.integers.proofs.Bits.{one-shl}
+use lib.IntN.{ℤ}
+use Rattle.integers.specs.Lists.{written}
 use Rattle.evc.specs.Table.{tm}
-use Rattle.evc.specs.Tests.{Test, samplesOf}
-use Rattle.evc.specs.Stages.{stageOneAt, stageOneTests, stageOneNumber, stageOneExit}
-use Rattle.evc.proofs.Tests.{Unbroken, refused-at, accepted-end, inside-no}
+use Rattle.evc.specs.Stages.{stageOneAt, stageTwoNumber}
 use Rattle.halving.specs.Lines.{Rooms}
-use Rattle.halving.proofs.Lines.{rooms, stage-end}
-use Rattle.halving.proofs.Calls.{below-one, above-six}
+use Rattle.halving.specs.Own.{own, Call, ownOne, doneOne}
+use Rattle.halving.proofs.Lines.{sized-rooms, sized-end}
+use Rattle.halving.proofs.Own.{call, call-rooms, one-did, one-left}
 use Rattle.itx.proofs.stage_one.itxb0.Statement.{statement}
 use Rattle.itx.proofs.stage_one.itxb0.Tie as tie
 
--- the call's tests
-abbrev tests : tie.Start → List Test
-tests c = stageOneTests (length (c .args .src .now)) (length (c .args .dst .now)) (c .args .log2-size) (c .args .log2-line)
-
-abbrev start : tie.Else3 → tie.Start
-start c = c .before .before .before
-
--- the code's shift is 2 to the sum of the logarithms
-samples : (c : tie.Else3) → (1 * 2 ^ (start c .args .log2-size + start c .args .log2-line)) % 2 ^ 64 ≡ samplesOf (start c .args .log2-size) (start c .args .log2-line)
-samples c = one-shl w64 (start c .args .log2-size + start c .args .log2-line) (omega arith)
-
--- where all tests have passed
-module _ (c : tie.Else5) where
+-- where the guard has let the call pass
+module _ (c : tie.Then1) where
   abbrev s : tie.Start
-  s = start (c .before .before)
+  s = c .before .before
 
-  lines : (1 * 2 ^ s .args .log2-line) % 2 ^ 64 ≡ 2 ^ s .args .log2-line
-  lines = one-shl w64 (s .args .log2-line) (omega arith)
+  guard : own 4 6 0 (s .args .log2-size) (s .args .log2-line) (stageTwoNumber (length (s .args .src .now)) (length (s .args .dst .now)) (s .args .log2-size) (s .args .log2-line) 0) ≡ true
+  guard = sym (c .before .mine .ensures) ∙ c .if1 .taken
 
-  src-room : samplesOf (s .args .log2-size) (s .args .log2-line) ≤ length (s .args .src .now)
-  src-room = let h = rw (samples (c .before .before)) at (c .before .if4 .left) in omega arith
+  known : Call 4 6 0 (length (s .args .src .now)) (length (s .args .dst .now)) (s .args .log2-size) (s .args .log2-line) 0
+  known = call guard
 
-  dst-room : samplesOf (s .args .log2-size) (s .args .log2-line) ≤ length (s .args .dst .now)
-  dst-room = let h = rw (samples (c .before .before)) at (c .if5 .left) in omega arith
+  -- the number of lines, as the code has it
+  abbrev l : ℕ
+  l = (1 * 2 ^ s .args .log2-line) % 2 ^ 64
 
-  room : Rooms (s .args .src .now) (s .args .dst .now) (2 ^ s .args .log2-size) ((1 * 2 ^ s .args .log2-line) % 2 ^ 64)
-  room = rooms (s .args .log2-size) (s .args .log2-line) _ lines src-room dst-room
+  room : (k : ℕ) → s .args .log2-size ≡ k → Rooms (s .args .src .now) (s .args .dst .now) (2 ^ k) l
+  room k e = sized-rooms (s .args .log2-size) k e (call-rooms known)
 
-  passed : Unbroken (tests s)
-  passed = (inside-no 1 6 (s .args .log2-size) (omega arith) (omega arith), (le-ltb 6 (s .args .log2-line) (omega arith), (le-ltb _ _ src-room, (le-ltb _ _ dst-room, tt))))
+  -- what the stage leaves, by the size
+  abbrev left : ℕ → ℕ → ℤ
+  left g = stageOneAt (tm (2 ^ g)) (2 ^ g) l (s .args .src .now)
 
-returns : tie.Need-returns
-unfolding stageOneNumber stageOneExit
-returns c = refused-at (tests (c .before)) 0 _ _ (below-one (c .before .args .log2-size) (c .if1 .taken))
+  done : (k : ℕ) {d : List ℤ} → s .args .log2-size ≡ k → d ≡ written (2 ^ k * l) (left k) (s .args .dst .now) → (true ≡ ownOne 4 6 0 (s .args .log2-size) (s .args .log2-line) (s .args .src .now) (s .args .dst .now)) × (d ≡ doneOne true (s .args .log2-size) (s .args .log2-line) (s .args .src .now) (s .args .dst .now))
+  done k e p = one-did 4 6 0 (s .args .log2-size) (s .args .log2-line) (s .args .src .now) (s .args .dst .now) guard (sized-end left (s .args .dst .now) l (s .args .log2-size) k e p)
 
-returns-2 : tie.Need-returns-2
-unfolding stageOneNumber stageOneExit
-returns-2 c = refused-at (tests (c .before .before)) 0 _ _ (above-six (c .before .before .args .log2-size) (c .if2 .taken))
-
-returns-3 : tie.Need-returns-3
-unfolding stageOneNumber stageOneExit
-returns-3 c =
-    let s = c .before .before .before in refused-at (tests s) 1 _ _ (inside-no 1 6 (s .args .log2-size) (omega arith) (omega arith), lt-ltb 6 (s .args .log2-line) (omega arith))
-
-add-n : tie.Need-add-n
-add-n c = search needs
-
-shl-n : tie.Need-shl-n
-shl-n c = search needs
-
-returns-4 : tie.Need-returns-4
-unfolding stageOneNumber stageOneExit
-returns-4 c =
-    let s = start (c .before) in
-    let h = rw (samples (c .before)) at (c .if4 .taken) in
-    refused-at (tests s) 2 _ _ (inside-no 1 6 (s .args .log2-size) (omega arith) (omega arith), (le-ltb 6 (s .args .log2-line) (omega arith), lt-ltb (length (s .args .src .now)) _ h))
-
-returns-5 : tie.Need-returns-5
-unfolding stageOneNumber stageOneExit
-returns-5 c =
-    let s = start (c .before .before) in
-    let r = rw (samples (c .before .before)) at (c .before .if4 .left) in
-    let h = rw (samples (c .before .before)) at (c .if5 .taken) in
-    refused-at (tests s) 3 _ _ (inside-no 1 6 (s .args .log2-size) (omega arith) (omega arith), (le-ltb 6 (s .args .log2-line) (omega arith), (le-ltb (length (s .args .src .now)) _ (omega arith), lt-ltb (length (s .args .dst .now)) _ h)))
+mine-requires : tie.Need-mine-requires
+mine-requires c κs = search needs
 
 shl-l : tie.Need-shl-l
-shl-l c = search needs
+shl-l c = omega (arith, known c .line-most)
 
-short-requires : tie.Need-short-requires
-short-requires c κs = ((omega arith, omega arith), room (c .before .before))
+itx-pb16b0-requires : tie.Need-itx-pb16b0-requires
+itx-pb16b0-requires c κs = room (c .before .before) 4 (c .before .match .keys1)
 
-long-requires : tie.Need-long-requires
-long-requires c κs = ((omega arith, omega arith), room (c .before .before))
+itx-pb32b0-requires : tie.Need-itx-pb32b0-requires
+itx-pb32b0-requires c κs = room (c .before .before) 5 (c .before .match .keys2)
+
+itx-pb64b0-requires : tie.Need-itx-pb64b0-requires
+itx-pb64b0-requires c κs = let d = c .before .before in room d 6 (omega (arith, known d .size-least, known d .size-most))
 
 same-length : tie.Need-same-length
 same-length c = search needs
 
-returns-6 : tie.Need-returns-6
-unfolding stageOneNumber stageOneExit
-returns-6 c =
-    let e = c .before .before .before .before in
-    let s = start (e .before .before) in
-    accepted-end (tests s) _ _ _ (passed e)
-    (stage-end (λ l. stageOneAt (tm (2 ^ s .args .log2-size)) (2 ^ s .args .log2-size) l (s .args .src .now)) (s .args .dst .now) (s .args .log2-size) (s .args .log2-line) _ (lines e) (c .before .short .ensures))
+returns : tie.Need-returns
+returns c = done (c .before .before .before .before) 4 (c .before .before .before .match .keys1) (c .before .itx-pb16b0 .ensures)
 
 same-length-2 : tie.Need-same-length-2
 same-length-2 c = search needs
 
-returns-7 : tie.Need-returns-7
-unfolding stageOneNumber stageOneExit
-returns-7 c =
-    let e = c .before .before .before .before in
-    let s = start (e .before .before) in
-    accepted-end (tests s) _ _ _ (passed e)
-    (stage-end (λ l. stageOneAt (tm (2 ^ s .args .log2-size)) (2 ^ s .args .log2-size) l (s .args .src .now)) (s .args .dst .now) (s .args .log2-size) (s .args .log2-line) _ (lines e) (c .before .long .ensures))
+returns-2 : tie.Need-returns-2
+returns-2 c = done (c .before .before .before .before) 5 (c .before .before .before .match .keys2) (c .before .itx-pb32b0 .ensures)
+
+same-length-3 : tie.Need-same-length-3
+same-length-3 c = search needs
+
+returns-3 : tie.Need-returns-3
+returns-3 c = let d = c .before .before .before .before in done d 6 (omega (arith, known d .size-least, known d .size-most)) (c .before .itx-pb64b0 .ensures)
+
+returns-4 : tie.Need-returns-4
+returns-4 c = let s = c .before .before in one-left 4 6 0 (s .args .log2-size) (s .args .log2-line) (s .args .src .now) (s .args .dst .now) (sym (c .before .mine .ensures) ∙ c .if1 .left)
 
 pub itxb0-spec : {M : Type 1} → statement M
 itxb0-spec =
     tie.close
     (tie.spec
-    returns
-    returns-2
-    returns-3
-    add-n
-    shl-n
-    returns-4
-    returns-5
+    mine-requires
     shl-l
-    short-requires
-    long-requires
+    itx-pb16b0-requires
+    itx-pb32b0-requires
+    itx-pb64b0-requires
     same-length
-    returns-6
+    returns
     same-length-2
-    returns-7)
+    returns-2
+    same-length-3
+    returns-3
+    returns-4)

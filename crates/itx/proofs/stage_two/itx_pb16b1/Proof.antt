@@ -1,62 +1,101 @@
--- `itx::stage_two::itx_pb16b1` meets its contract: gathered, summed, stored. Assumes nothing.
-use mathlib.Core.Path.{refl, sym}
+-- `itx::stage_two::itx_pb16b1` meets its contract: line after line, each gathered, summed, stored. Assumes nothing.
+use mathlib.Core.Path.{_≡_, refl, sym}
+use Prim.Native.Nat.{ℕ, _*_, _-_, _≤_}
 use native.Mathlib.Omega.{arith}
+use lib.IntN.{ℤ}
 use mir.Facts.{toZ-ofZ}
+use Rattle.integers.specs.Lists.{written}
 use Rattle.evc.specs.Table.{tm}
 use Rattle.evc.specs.Stages.{stageTwoAt}
 use Rattle.halving.specs.Lines.{shifted}
-use Rattle.halving.proofs.Lines.{inputs, lined}
+use Rattle.halving.proofs.Lines.{inputs, lined, room-of, lines-none, lines-more, lines-length, lines-all}
 use Rattle.halving.proofs.Instance.{own-bounded}
 use Rattle.itx.proofs.stage_two.itx_pb16b1.Statement.{statement}
 use Rattle.itx.proofs.stage_two.itx_pb16b1.Tie as tie
 
-slice-aggregate-gather-i32 : tie.Need-slice-aggregate-gather-i32
+abbrev Inv-loop : tie.InvT-loop
+Inv-loop src dst₀ l add shift j₀ dst j = (j ≤ l) × (dst ≡ written (j * 16) (stageTwoAt (tm 16) 16 l shift src) dst₀)
+
+abbrev μ-loop : tie.MeasureT-loop
+μ-loop src dst₀ l add shift j₀ dst j = l - j
+
+-- what the stage leaves
+abbrev left : tie.Start Inv-loop μ-loop → ℕ → ℤ
+left s = stageTwoAt (tm 16) 16 (s .args .l) (s .args .shift) (s .args .src .now)
+
+loop-holds : tie.Need-loop-holds Inv-loop μ-loop
+loop-holds c = let s = c in (omega arith, lines-none (left s) (s .args .dst .now) 16)
+
+slice-aggregate-gather-i32 : tie.Need-slice-aggregate-gather-i32 Inv-loop μ-loop
 slice-aggregate-gather-i32 c = refl
 
-gather-i32-requires : tie.Need-gather-i32-requires
-gather-i32-requires c κs = (refl, (c .before .pre .1 .among, c .before .pre .1 .src-room))
+gather-i32-requires : tie.Need-gather-i32-requires Inv-loop μ-loop
+gather-i32-requires c κs =
+    let s = c .before .before .before in (refl, (c .before .loop-test .taken, s .pre .1 .src-room))
 
-slice-aggregate-own16 : tie.Need-slice-aggregate-own16
-slice-aggregate-own16 c = sym (c .before .before .gather-i32 .ensures .long)
+slice-aggregate-own16 : tie.Need-slice-aggregate-own16 Inv-loop μ-loop
+slice-aggregate-own16 c = refl
 
-slice-aggregate-own16-2 : tie.Need-slice-aggregate-own16-2
-slice-aggregate-own16-2 c = refl
-
-own16-requires : tie.Need-own16-requires
+own16-requires : tie.Need-own16-requires Inv-loop μ-loop
 own16-requires c κs = (inputs (c .before .before .before .gather-i32 .ensures) (omega arith), refl)
 
-slice-aggregate-store-i16 : tie.Need-slice-aggregate-store-i16
+slice-aggregate-store-i16 : tie.Need-slice-aggregate-store-i16 Inv-loop μ-loop
 slice-aggregate-store-i16 c = sym (c .before .before .own16 .ensures .long)
 
-store-i16-requires : tie.Need-store-i16-requires
+store-i16-requires : tie.Need-store-i16-requires Inv-loop μ-loop
 store-i16-requires c κs =
-    let s = c .before .before .before .before .before .before .before .before .before in (
+    let s = c .before .before .before .before .before .before .before .before .before .before .before in
+    let l = c .before .before .before .before .before .before .before .before .before .before .loop in (
       (
         rw (toZ-ofZ (s .fits .add)) (s .pre .0),
         own-bounded 16 (inputs (c .before .before .before .before .before .before .before .gather-i32 .ensures) (omega arith)) (c .before .before .before .own16 .ensures),
       ),
-      (omega (arith, c .before .before .before .own16 .ensures .long), s .pre .1 .dst-room),
+      (omega (arith, c .before .before .before .own16 .ensures .long), room-of (l .dst) 16 (s .args .l) (l .j) (lines-length (left s) (s .args .dst .now) 16 (s .args .l) (l .j) (l .inv .0) (s .pre .1 .dst-room) (l .inv .1)) (c .before .before .before .before .before .before .before .before .before .loop-test .taken) (s .pre .1) .dst-room),
     )
 
-same-length : tie.Need-same-length
-same-length c = c .before .store-i16 .ensures .long
+add-j : tie.Need-add-j Inv-loop μ-loop
+add-j c = omega (arith, c .before .before .before .before .before .before .before .before .before .before .before .loop-test .taken)
 
-returns : tie.Need-returns
+loop-less : tie.Need-loop-less Inv-loop μ-loop
+loop-less c = omega (arith, c .before .before .before .before .before .before .before .before .before .before .before .loop-test .taken)
+
+loop-again : tie.Need-loop-again Inv-loop μ-loop
 unfolding stageTwoAt
+loop-again c =
+    let s = c .before .before .before .before .before .before .before .before .before .before .before .before .before in
+    let l = c .before .before .before .before .before .before .before .before .before .before .before .before .loop in (
+      omega (arith, c .before .before .before .before .before .before .before .before .before .before .before .loop-test .taken),
+      lines-more (left s) (s .args .dst .now) 16 (s .args .l) (l .j) (c .before .before .before .before .before .before .before .before .before .before .before .loop-test .taken) (s .pre .1 .dst-room) (l .inv .1)
+          (lined (shifted (s .args .shift)) (tm 16) 16 (s .args .l) (l .j) (s .args .src .now) (c .before .before .before .before .before .before .before .before .before .gather-i32 .ensures) (c .before .before .before .before .before .own16 .ensures) (c .before .store-i16 .ensures)),
+    )
+
+same-length : tie.Need-same-length Inv-loop μ-loop
+same-length c =
+    let s = c .before .before in
+    let l = c .before .loop in
+    lines-length (left s) (s .args .dst .now) 16 (s .args .l) (l .j) (l .inv .0) (s .pre .1 .dst-room) (l .inv .1)
+
+returns : tie.Need-returns Inv-loop μ-loop
 returns c =
-    let s = c .before .before .before .before .before .before .before .before .before .before .before in
-    lined (shifted (s .args .shift)) (tm 16) 16 (s .args .l) (s .args .j) (s .args .src .now) (c .before .before .before .before .before .before .before .before .before .gather-i32 .ensures) (c .before .before .before .before .before .own16 .ensures) (c .before .store-i16 .ensures)
+    let s = c .before .before in
+    let l = c .before .loop in
+    lines-all (left s) (s .args .dst .now) 16 (s .args .l) (l .j) (omega (arith, l .inv .0, c .loop-test .left)) (l .inv .1)
 
 pub itx-pb16b1-spec : {M : Type 1} → statement M
 itx-pb16b1-spec =
     tie.close
     (tie.spec
+    Inv-loop
+    μ-loop
+    loop-holds
     slice-aggregate-gather-i32
     gather-i32-requires
     slice-aggregate-own16
-    slice-aggregate-own16-2
     own16-requires
     slice-aggregate-store-i16
     store-i16-requires
+    add-j
+    loop-less
+    loop-again
     same-length
     returns)

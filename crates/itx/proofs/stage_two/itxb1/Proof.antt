@@ -1,149 +1,111 @@
--- `itx::stage_two::itxb1` meets its contract: each return by the tests that led there. Assumes nothing.
+-- `itx::stage_two::itxb1` meets its contract: by its lines where the guard holds. Assumes nothing.
 use borrow.Author.Needs.{needs, sfits-of}
-use borrow.Author.Tests.{lt-ltb, le-ltb}
-use mathlib.Core.Path.{_≡_, _∙_}
+use mathlib.Core.Path.{_≡_, sym, _∙_}
+use mathlib.Core.Bool.{true}
 use mathlib.Core.List.{List}
-use Prim.Native.Nat.{_+_, _*_, _^_, _%_, _≤_}
+use Prim.Native.Nat.{ℕ, _*_, _^_, _%_}
 use native.Mathlib.Omega.{arith}
 use lib.ListN.{length}
+use lib.IntN.{ℤ}
 use mir.Syntax.{w64}
 use mir.Val.{toZ, ofZ}
 use mir.Facts.{toZ-ofZ}
-use Rattle.integers.proofs.Bits.{one-shl}
+use Rattle.integers.specs.Lists.{written}
 use Rattle.evc.specs.Table.{tm}
-use Rattle.evc.specs.Tests.{Test, samplesOf}
-use Rattle.evc.specs.Stages.{stageTwoAt, stageTwoTests, stageTwoNumber, stageTwoExit}
-use Rattle.evc.proofs.Tests.{Unbroken, refused-at, accepted-end, inside-no}
+use Rattle.evc.specs.Stages.{stageTwoAt, stageTwoNumber}
 use Rattle.halving.specs.Lines.{Amount, Rooms}
-use Rattle.halving.proofs.Lines.{rooms, stage-end}
-use Rattle.halving.proofs.Calls.{below-one, above-six}
+use Rattle.halving.specs.Own.{own, Call, ownTwo, doneTwo}
+use Rattle.halving.proofs.Lines.{sized-rooms, sized-end, amount}
+use Rattle.halving.proofs.Own.{call, call-rooms, two-did, two-left}
 use Rattle.itx.proofs.stage_two.itxb1.Statement.{statement}
 use Rattle.itx.proofs.stage_two.itxb1.Tie as tie
 
--- the call's tests
-abbrev tests : tie.Start → List Test
-tests c = stageTwoTests (length (c .args .src .now)) (length (c .args .dst .now)) (c .args .log2-size) (c .args .log2-line) (c .args .shift)
-
-abbrev start : tie.Else4 → tie.Start
-start c = c .before .before .before .before
-
--- the code's shift is 2 to the sum of the logarithms
-samples : (c : tie.Else4) → (1 * 2 ^ (start c .args .log2-size + start c .args .log2-line)) % 2 ^ 64 ≡ samplesOf (start c .args .log2-size) (start c .args .log2-line)
-samples c = one-shl w64 (start c .args .log2-size + start c .args .log2-line) (omega arith)
-
--- where all tests have passed
-module _ (c : tie.Else6) where
+-- where the guard has let the call pass
+module _ (c : tie.Then1) where
   abbrev s : tie.Start
-  s = start (c .before .before)
+  s = c .before .before
 
-  lines : (1 * 2 ^ s .args .log2-line) % 2 ^ 64 ≡ 2 ^ s .args .log2-line
-  lines = one-shl w64 (s .args .log2-line) (omega arith)
+  guard : own 4 6 0 (s .args .log2-size) (s .args .log2-line) (stageTwoNumber (length (s .args .src .now)) (length (s .args .dst .now)) (s .args .log2-size) (s .args .log2-line) (s .args .shift)) ≡ true
+  guard = sym (c .before .mine .ensures) ∙ c .if1 .taken
 
-  src-room : samplesOf (s .args .log2-size) (s .args .log2-line) ≤ length (s .args .src .now)
-  src-room = let h = rw (samples (c .before .before)) at (c .before .if5 .left) in omega arith
+  known : Call 4 6 0 (length (s .args .src .now)) (length (s .args .dst .now)) (s .args .log2-size) (s .args .log2-line) (s .args .shift)
+  known = call guard
 
-  dst-room : samplesOf (s .args .log2-size) (s .args .log2-line) ≤ length (s .args .dst .now)
-  dst-room = let h = rw (samples (c .before .before)) at (c .if6 .left) in omega arith
+  -- the number of lines, as the code has it
+  abbrev l : ℕ
+  l = (1 * 2 ^ s .args .log2-line) % 2 ^ 64
 
-  room : Rooms (s .args .src .now) (s .args .dst .now) (2 ^ s .args .log2-size) ((1 * 2 ^ s .args .log2-line) % 2 ^ 64)
-  room = rooms (s .args .log2-size) (s .args .log2-line) _ lines src-room dst-room
+  room : (k : ℕ) → s .args .log2-size ≡ k → Rooms (s .args .src .now) (s .args .dst .now) (2 ^ k) l
+  room k e = sized-rooms (s .args .log2-size) k e (call-rooms known)
 
-  passed : Unbroken (tests s)
-  passed = (inside-no 1 6 (s .args .log2-size) (omega arith) (omega arith), (le-ltb 6 (s .args .log2-line) (omega arith), (le-ltb 31 (s .args .shift) (omega arith), (le-ltb _ _ src-room, (le-ltb _ _ dst-room, tt)))))
+  -- what the stage leaves, by the size
+  abbrev left : ℕ → ℕ → ℤ
+  left g = stageTwoAt (tm (2 ^ g)) (2 ^ g) l (s .args .shift) (s .args .src .now)
 
-amount : (c : tie.After-rounding) → Amount (toZ w64 (ofZ w64 (c .rounding .result))) (s (c .before) .args .shift)
-amount c = record { most = omega arith; is = toZ-ofZ (sfits-of (c .rounding .ok)) ∙ c .rounding .ensures }
+  done : (k : ℕ) {d : List ℤ} → s .args .log2-size ≡ k → d ≡ written (2 ^ k * l) (left k) (s .args .dst .now) → (true ≡ ownTwo 4 6 0 (s .args .log2-size) (s .args .log2-line) (s .args .shift) (s .args .src .now) (s .args .dst .now)) × (d ≡ doneTwo true (s .args .log2-size) (s .args .log2-line) (s .args .shift) (s .args .src .now) (s .args .dst .now))
+  done k e p = two-did 4 6 0 (s .args .log2-size) (s .args .log2-line) (s .args .src .now) (s .args .dst .now) (s .args .shift) guard (sized-end left (s .args .dst .now) l (s .args .log2-size) k e p)
 
-returns : tie.Need-returns
-unfolding stageTwoNumber stageTwoExit
-returns c = refused-at (tests (c .before)) 0 _ _ (below-one (c .before .args .log2-size) (c .if1 .taken))
+-- the rounding number
+sum : (c : tie.After-rounding) → Amount (toZ w64 (ofZ w64 (c .rounding .result))) (s (c .before) .args .shift)
+sum c =
+    let d = c .before in
+    amount (s d .args .shift) (known d .shift-most) (toZ-ofZ (sfits-of (c .rounding .ok)) ∙ c .rounding .ensures)
 
-returns-2 : tie.Need-returns-2
-unfolding stageTwoNumber stageTwoExit
-returns-2 c = refused-at (tests (c .before .before)) 0 _ _ (above-six (c .before .before .args .log2-size) (c .if2 .taken))
-
-returns-3 : tie.Need-returns-3
-unfolding stageTwoNumber stageTwoExit
-returns-3 c =
-    let s = c .before .before .before in refused-at (tests s) 1 _ _ (inside-no 1 6 (s .args .log2-size) (omega arith) (omega arith), lt-ltb 6 (s .args .log2-line) (omega arith))
-
-returns-4 : tie.Need-returns-4
-unfolding stageTwoNumber stageTwoExit
-returns-4 c =
-    let s = c .before .before .before .before in refused-at (tests s) 2 _ _ (inside-no 1 6 (s .args .log2-size) (omega arith) (omega arith), (le-ltb 6 (s .args .log2-line) (omega arith), lt-ltb 31 (s .args .shift) (omega arith)))
-
-add-n : tie.Need-add-n
-add-n c = search needs
-
-shl-n : tie.Need-shl-n
-shl-n c = search needs
-
-returns-5 : tie.Need-returns-5
-unfolding stageTwoNumber stageTwoExit
-returns-5 c =
-    let s = start (c .before) in
-    let h = rw (samples (c .before)) at (c .if5 .taken) in
-    refused-at (tests s) 3 _ _ (inside-no 1 6 (s .args .log2-size) (omega arith) (omega arith), (le-ltb 6 (s .args .log2-line) (omega arith), (le-ltb 31 (s .args .shift) (omega arith), lt-ltb (length (s .args .src .now)) _ h)))
-
-returns-6 : tie.Need-returns-6
-unfolding stageTwoNumber stageTwoExit
-returns-6 c =
-    let s = start (c .before .before) in
-    let r = rw (samples (c .before .before)) at (c .before .if5 .left) in
-    let h = rw (samples (c .before .before)) at (c .if6 .taken) in
-    refused-at (tests s) 4 _ _ (inside-no 1 6 (s .args .log2-size) (omega arith) (omega arith), (le-ltb 6 (s .args .log2-line) (omega arith), (le-ltb 31 (s .args .shift) (omega arith), (le-ltb (length (s .args .src .now)) _ (omega arith), lt-ltb (length (s .args .dst .now)) _ h))))
+mine-requires : tie.Need-mine-requires
+mine-requires c κs = search needs
 
 shl-l : tie.Need-shl-l
-shl-l c = search needs
+shl-l c = omega (arith, known c .line-most)
 
 rounding-requires : tie.Need-rounding-requires
 rounding-requires c κs = search needs
 
-short-requires : tie.Need-short-requires
-short-requires c κs = (amount (c .before .before), ((omega arith, omega arith), room (c .before .before .before)))
+itx-pb16b1-requires : tie.Need-itx-pb16b1-requires
+itx-pb16b1-requires c κs = let d = c .before .before in (sum d, room (d .before) 4 (c .before .match .keys1))
 
-long-requires : tie.Need-long-requires
-long-requires c κs = (amount (c .before .before), ((omega arith, omega arith), room (c .before .before .before)))
+itx-pb32b1-requires : tie.Need-itx-pb32b1-requires
+itx-pb32b1-requires c κs = let d = c .before .before in (sum d, room (d .before) 5 (c .before .match .keys2))
+
+itx-pb64b1-requires : tie.Need-itx-pb64b1-requires
+itx-pb64b1-requires c κs =
+    let d = c .before .before in
+    let k = known (d .before) in (sum d, room (d .before) 6 (omega (arith, k .size-least, k .size-most)))
 
 same-length : tie.Need-same-length
 same-length c = search needs
 
-returns-7 : tie.Need-returns-7
-unfolding stageTwoNumber stageTwoExit
-returns-7 c =
-    let e = c .before .before .before .before .before in
-    let s = start (e .before .before) in
-    accepted-end (tests s) _ _ _ (passed e)
-    (stage-end (λ l. stageTwoAt (tm (2 ^ s .args .log2-size)) (2 ^ s .args .log2-size) l (s .args .shift) (s .args .src .now)) (s .args .dst .now) (s .args .log2-size) (s .args .log2-line) _ (lines e) (c .before .short .ensures))
+returns : tie.Need-returns
+returns c = done (c .before .before .before .before .before) 4 (c .before .before .before .match .keys1) (c .before .itx-pb16b1 .ensures)
 
 same-length-2 : tie.Need-same-length-2
 same-length-2 c = search needs
 
-returns-8 : tie.Need-returns-8
-unfolding stageTwoNumber stageTwoExit
-returns-8 c =
-    let e = c .before .before .before .before .before in
-    let s = start (e .before .before) in
-    accepted-end (tests s) _ _ _ (passed e)
-    (stage-end (λ l. stageTwoAt (tm (2 ^ s .args .log2-size)) (2 ^ s .args .log2-size) l (s .args .shift) (s .args .src .now)) (s .args .dst .now) (s .args .log2-size) (s .args .log2-line) _ (lines e) (c .before .long .ensures))
+returns-2 : tie.Need-returns-2
+returns-2 c = done (c .before .before .before .before .before) 5 (c .before .before .before .match .keys2) (c .before .itx-pb32b1 .ensures)
+
+same-length-3 : tie.Need-same-length-3
+same-length-3 c = search needs
+
+returns-3 : tie.Need-returns-3
+returns-3 c = let d = c .before .before .before .before .before in done d 6 (omega (arith, known d .size-least, known d .size-most)) (c .before .itx-pb64b1 .ensures)
+
+returns-4 : tie.Need-returns-4
+returns-4 c = let s = c .before .before in two-left 4 6 0 (s .args .log2-size) (s .args .log2-line) (s .args .src .now) (s .args .dst .now) (s .args .shift) (sym (c .before .mine .ensures) ∙ c .if1 .left)
 
 pub itxb1-spec : {M : Type 1} → statement M
 itxb1-spec =
     tie.close
     (tie.spec
-    returns
-    returns-2
-    returns-3
-    returns-4
-    add-n
-    shl-n
-    returns-5
-    returns-6
+    mine-requires
     shl-l
     rounding-requires
-    short-requires
-    long-requires
+    itx-pb16b1-requires
+    itx-pb32b1-requires
+    itx-pb64b1-requires
     same-length
-    returns-7
+    returns
     same-length-2
-    returns-8)
+    returns-2
+    same-length-3
+    returns-3
+    returns-4)
