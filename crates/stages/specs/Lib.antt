@@ -1,2 +1,0 @@
--- What the helpers of the small sizes promise each other.
-pub mod Sums
