@@ -3,10 +3,10 @@ ghost use mathlib.Core.Path.{_≡_};
 ghost use lib.ListN.{length};
 ghost use Rattle.evc.specs.Calls.{diff16bNumber, diff16bExit, satd16b, ssd16b, ssd16i, sad16b, sadBi16b, sad16i, sadBi16i};
 ghost use Rattle.evc.specs.Planes.{planeOf};
-ghost use Rattle.capi.specs.Boundary.{Told};
-use crate::numbers::answer_number;
-use crate::numbers::tell_distortion;
-use crate::numbers::tell_squared;
+ghost use Rattle.numbers.specs.Told.{Told};
+use numbers::answer_number;
+use numbers::tell_distortion;
+use numbers::tell_squared;
 
 #[no_mangle]
 pub extern "C" fn tv_diff(

@@ -1,10 +1,10 @@
--- `capi::numbers::tell_squared` meets its contract: a value that an answer holds fits its place. Assumes nothing.
+-- `numbers::answers::tell_squared` meets its contract: a value that an answer holds fits its place. Assumes nothing.
 use borrow.Author.Needs.{needs}
 use mathlib.Core.Path.{_∙_}
 use mir.Syntax.{w64}
 use mir.Facts.{toZ-ofZ}
-use Rattle.capi.proofs.numbers.tell_squared.Statement.{statement}
-use Rattle.capi.proofs.numbers.tell_squared.Tie as tie
+use Rattle.numbers.proofs.answers.tell_squared.Statement.{statement}
+use Rattle.numbers.proofs.answers.tell_squared.Tie as tie
 
 enum-known-d : tie.Need-enum-known-d
 enum-known-d c = search needs

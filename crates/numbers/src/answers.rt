@@ -2,7 +2,7 @@
 // value as it was; an accepted sub-block call leaves the place of a component as it was.
 ghost use mathlib.Core.Path.{_≡_};
 ghost use Rattle.evc.specs.Answers.{number, answerNumber, distortionReading, squaredReading, subReading};
-ghost use Rattle.capi.specs.Boundary.{componentNumber, Told, SubTold};
+ghost use Rattle.numbers.specs.Told.{componentNumber, Told, SubTold};
 use evc::Answer;
 use evc::Component;
 use evc::Distortion;
@@ -34,7 +34,7 @@ fn component_number(c: Component) -> u8
     }
 }
 
-pub(crate) fn answer_number(a: Answer) -> u8
+pub fn answer_number(a: Answer) -> u8
     ensures { λ n. ⌜ n ≡ answerNumber a ⌝ }
 {
     match a {
@@ -43,7 +43,7 @@ pub(crate) fn answer_number(a: Answer) -> u8
     }
 }
 
-pub(crate) fn tell_distortion(d: Distortion, value: &mut u32) -> u8
+pub fn tell_distortion(d: Distortion, value: &mut u32) -> u8
     ensures { λ n. ⌜ Told (distortionReading d) (now (value .entry)) (now (value .exit)) n ⌝ }
 {
     match d {
@@ -55,7 +55,7 @@ pub(crate) fn tell_distortion(d: Distortion, value: &mut u32) -> u8
     }
 }
 
-pub(crate) fn tell_squared(d: SquaredDistortion, value: &mut i64) -> u8
+pub fn tell_squared(d: SquaredDistortion, value: &mut i64) -> u8
     ensures { λ n. ⌜ Told (squaredReading d) (now (value .entry)) (now (value .exit)) n ⌝ }
 {
     match d {
@@ -67,7 +67,7 @@ pub(crate) fn tell_squared(d: SquaredDistortion, value: &mut i64) -> u8
     }
 }
 
-pub(crate) fn tell_sub_block(a: SubAnswer, component: &mut u8) -> u8
+pub fn tell_sub_block(a: SubAnswer, component: &mut u8) -> u8
     ensures { λ n. ⌜ SubTold (subReading a) (now (component .entry)) (now (component .exit)) n ⌝ }
 {
     match a {
