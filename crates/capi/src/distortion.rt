@@ -57,7 +57,7 @@ pub extern "C" fn tv_satd(
     ensures { λ r. ⌜ Told (satd16b (planeOf (now (org .entry)) width height stride) x y w h (now (cur .entry)) depth) (now (value .entry)) (now (value .exit)) r ⌝ }
 {
     tell_distortion(
-        diff::evce_satd_16b(org, width, height, stride, x, y, w, h, cur, depth),
+        satd::evce_satd_16b(org, width, height, stride, x, y, w, h, cur, depth),
         value,
     )
 }
