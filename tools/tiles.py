@@ -1,5 +1,6 @@
 #!/usr/bin/env python3
-"""Writes the tiles of 4 by 4 and of 2 by 2 of the crate `diff`, code and proofs, from those of 8 by 8: only the side differs.
+"""Writes what the crate `satd` has more than once, code and proofs: the tiles of 4 by 4 and of 2 by 2 from those of 8 by 8, of which only the
+side differs, and the rows of two blocks from those of the crate `diff`: a helper that asks something of its caller is its crate's own.
 
     tools/tiles.py            writes the files
     tools/tiles.py --check    writes nothing; fails where a file differs from what would be written
@@ -8,7 +9,9 @@ import re
 import sys
 from pathlib import Path
 
-CRATE = Path(__file__).resolve().parent.parent / "crates" / "diff"
+CRATES = Path(__file__).resolve().parent.parent / "crates"
+CRATE = CRATES / "satd"
+FROM = CRATES / "diff"
 SIDES = (4, 2)
 
 
@@ -23,10 +26,17 @@ def turned(text, side):
     return re.sub(r"\b8\b", str(side), text)
 
 
+def owned(text):
+    text = text.replace("Rattle.diff.specs.", "Rattle.diff.specs.")
+    return text.replace("Rattle.diff.proofs.", "Rattle.satd.proofs.")
+
+
 def files():
     for path in [CRATE / "src" / "tiles8.rt", *sorted((CRATE / "proofs" / "tiles8").rglob("*.antt"))]:
         for side in SIDES:
             yield Path(str(path).replace("tiles8", f"tiles{side}")), turned(path.read_text(), side)
+    for path in [FROM / "src" / "rows.rt", *sorted((FROM / "proofs" / "rows").rglob("*.antt"))]:
+        yield CRATE / path.relative_to(FROM), owned(path.read_text())
 
 
 def main():

@@ -3,10 +3,10 @@ ghost use mathlib.Core.Path.{_≡_};
 ghost use lib.ListN.{length};
 ghost use Rattle.evc.specs.Calls.{diff16bNumber, diff16bExit, satd16b, ssd16b, ssd16i, sad16b, sadBi16b, sad16i, sadBi16i};
 ghost use Rattle.evc.specs.Planes.{planeOf};
-ghost use Rattle.capi.specs.Boundary.{Told};
-use crate::numbers::answer_number;
-use crate::numbers::tell_distortion;
-use crate::numbers::tell_squared;
+ghost use Rattle.numbers.specs.Told.{Told};
+use numbers::answer_number;
+use numbers::tell_distortion;
+use numbers::tell_squared;
 
 #[no_mangle]
 pub extern "C" fn tv_diff(
@@ -57,7 +57,7 @@ pub extern "C" fn tv_satd(
     ensures { λ r. ⌜ Told (satd16b (planeOf (now (org .entry)) width height stride) x y w h (now (cur .entry)) depth) (now (value .entry)) (now (value .exit)) r ⌝ }
 {
     tell_distortion(
-        diff::evce_satd_16b(org, width, height, stride, x, y, w, h, cur, depth),
+        satd::evce_satd_16b(org, width, height, stride, x, y, w, h, cur, depth),
         value,
     )
 }

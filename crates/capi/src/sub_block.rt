@@ -1,20 +1,8 @@
 // The sub-block call.
 ghost use mathlib.Core.Path.{_≡_};
-ghost use Rattle.capi.specs.Boundary.{partOf, subBlockOf, SubDone};
-use crate::numbers::tell_sub_block;
-use evc::Part;
-use evc::SubBlock;
-
-// A component as C hands it in.
-fn part(flag: u8, start: usize, qp: u8) -> Part
-    ensures { λ r. ⌜ r ≡ partOf flag start qp ⌝ }
-{
-    Part {
-        flag: flag != 0,
-        start: start,
-        qp: qp,
-    }
-}
+ghost use Rattle.numbers.specs.Given.{partOf, subBlockOf};
+ghost use Rattle.capi.specs.Boundary.{SubDone};
+use numbers::tell_sub_block;
 
 #[no_mangle]
 pub extern "C" fn tv_sub_block(
@@ -37,15 +25,21 @@ pub extern "C" fn tv_sub_block(
 ) -> u8
     ensures { λ r. ⌜ SubDone (subBlockOf «log2_w» «log2_h» offset «dq_shift» «it_shift» (partOf «flag_y» «start_y» «qp_y») (partOf «flag_u» «start_u» «qp_u») (partOf «flag_v» «start_v» «qp_v»)) (now (coef .entry)) (now (coef .exit)) (now (component .entry)) (now (component .exit)) r ⌝ }
 {
-    let call = SubBlock {
-        logw: log2_w,
-        logh: log2_h,
-        offset: offset,
-        dqshift: dq_shift,
-        itshift: it_shift,
-        y: part(flag_y, start_y, qp_y),
-        u: part(flag_u, start_u, qp_u),
-        v: part(flag_v, start_v, qp_v),
-    };
+    let call = numbers::sub_block(
+        log2_w,
+        log2_h,
+        offset,
+        dq_shift,
+        it_shift,
+        flag_y,
+        flag_u,
+        flag_v,
+        start_y,
+        start_u,
+        start_v,
+        qp_y,
+        qp_u,
+        qp_v,
+    );
     tell_sub_block(itdq::evc_sub_block_itdq2(coef, call), component)
 }

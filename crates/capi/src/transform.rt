@@ -4,9 +4,8 @@ ghost use lib.ListN.{length};
 ghost use Rattle.evc.specs.Dequantizer.{dquantNumber, dquantExit};
 ghost use Rattle.evc.specs.Stages.{stageOneNumber, stageTwoNumber, itxb0Exit, itxb1Exit};
 ghost use Rattle.evc.specs.Jobs.{jobNumber, jobExit};
-ghost use Rattle.capi.specs.Boundary.{jobOf};
-use crate::numbers::answer_number;
-use evc::Job;
+ghost use Rattle.numbers.specs.Given.{jobOf};
+use numbers::answer_number;
 
 #[no_mangle]
 pub extern "C" fn tv_dquant(
@@ -59,14 +58,6 @@ pub extern "C" fn tv_job(
     ensures number { λ r. ⌜ r ≡ jobNumber (length (now (coef .entry))) (jobOf start «log2_w» «log2_h» qp offset «dq_shift» «it_shift») ⌝ }
     ensures exit { λ r. ⌜ now (coef .exit) ≡ jobExit (jobOf start «log2_w» «log2_h» qp offset «dq_shift» «it_shift») (now (coef .entry)) ⌝ }
 {
-    let job = Job {
-        start: start,
-        logw: log2_w,
-        logh: log2_h,
-        qp: qp,
-        offset: offset,
-        dqshift: dq_shift,
-        itshift: it_shift,
-    };
+    let job = numbers::job(start, log2_w, log2_h, qp, offset, dq_shift, it_shift);
     answer_number(itdq::evc_itdq_job(coef, job))
 }

@@ -1,4 +1,3 @@
 -- Laws that several proofs of this crate need.
-pub mod Rows
+pub mod Tested
 pub mod Differing
-pub mod Tiling

@@ -1,40 +1,19 @@
 // DIFF, after the Rust's evce_diff_16b. Document 01, "Distortion".
 // Differs from the Rust in: a call that breaks a test is refused, and nothing is written before all samples are tested; the depth is an
-// argument. A difference is formed in 32 bits, and fits 16 since both samples were tested.
+// argument.
 ghost use mathlib.Core.Path.{_≡_};
-ghost use Prim.Native.Nat.{_+_, _*_, _<_, _≤_};
-ghost use lib.IntN.{pos, _-ℤ_};
-ghost use lib.ListN.{length, getD};
-ghost use Rattle.integers.specs.Lists.{tab, written};
+ghost use Prim.Native.Nat.{_*_, _≤_};
+ghost use lib.ListN.{length};
+ghost use Rattle.integers.specs.Lists.{written};
 ghost use Rattle.evc.specs.Answers.{answerNumber};
 ghost use Rattle.evc.specs.Planes.{planeOf};
 ghost use Rattle.evc.specs.Differences.{diffAt};
 ghost use Rattle.evc.specs.Calls.{diff16bNumber, diff16bExit};
 ghost use Rattle.planes.specs.Blocks.{TwoBlocks, strided};
-ghost use Rattle.diff.specs.Small.{SmallRow, Ready, apartFrom};
+ghost use Rattle.diff.specs.Small.{Ready, apartFrom};
 ghost use Rattle.diff.specs.Rests.{Differed};
 use evc::Answer;
 use evc::Refusal;
-
-// First minus second.
-fn minus(p: u16, q: u16) -> i16
-    requires { ⌜ (p < 16384) × (q < 16384) ⌝ }
-    ensures { λ r. ⌜ r ≡ pos p -ℤ pos q ⌝ }
-{
-    let d = (p as i32) - (q as i32);
-    d as i16
-}
-
-// The differences of two rows of w samples, that start at p and q.
-pub(crate) fn diff_row(a: &[u16], p: usize, b: &[u16], q: usize, w: usize, out: &mut [i16])
-    requires { ⌜ SmallRow w (now a) p × SmallRow w (now b) q ⌝ }
-    requires { ⌜ length (now out) ≡ w ⌝ }
-    ensures { λ _. ⌜ now (out .exit) ≡ tab w (λ i. pos (getD (now (a .entry)) (p + i) 0) -ℤ pos (getD (now (b .entry)) (q + i) 0)) ⌝ }
-{
-    for i in 0..w {
-        out[i] = minus(a[p + i], b[q + i]);
-    }
-}
 
 // The differences of two blocks, row after row.
 fn diff_rows(
@@ -54,7 +33,7 @@ fn diff_rows(
     for j in 0..h {
         let from = j * w;
         let to = from + w;
-        diff_row(
+        crate::rows::diff_row(
             a,
             a_at + j * a_stride,
             b,
@@ -65,8 +44,8 @@ fn diff_rows(
     }
 }
 
-// The same, with the common widths as literals.
-fn diff_block(
+// Two blocks of samples, after all other tests: the samples are tested, and only then the differences are written.
+fn of_width(
     a: &[u16],
     a_at: usize,
     a_stride: usize,
@@ -75,22 +54,44 @@ fn diff_block(
     b_stride: usize,
     w: usize,
     h: usize,
+    depth: u8,
     out: &mut [i16],
-)
-    requires { ⌜ Ready w h (now a) «a_at» «a_stride» (now b) «b_at» «b_stride» (length (now out)) ⌝ }
-    ensures { λ _. ⌜ now (out .exit) ≡ written (h * w) (diffAt w (apartFrom (now (a .entry)) «a_at» «a_stride» (now (b .entry)) «b_at» «b_stride»)) (now (out .entry)) ⌝ }
+) -> Answer
+    requires { ⌜ TwoBlocks w h (length (now a)) «a_at» «a_stride» (length (now b)) «b_at» «b_stride» ⌝ }
+    requires { ⌜ (depth ≤ 14) × (h * w ≤ length (now out)) ⌝ }
+    ensures { λ r. ⌜ Differed w h (strided (now (a .entry)) «a_at» «a_stride» depth) (strided (now (b .entry)) «b_at» «b_stride» depth) (now (out .entry)) (answerNumber r) (now (out .exit)) ⌝ }
 {
-    match w {
-        64 => diff_rows(a, a_at, a_stride, b, b_at, b_stride, 64, h, out),
-        32 => diff_rows(a, a_at, a_stride, b, b_at, b_stride, 32, h, out),
-        16 => diff_rows(a, a_at, a_stride, b, b_at, b_stride, 16, h, out),
-        8 => diff_rows(a, a_at, a_stride, b, b_at, b_stride, 8, h, out),
-        4 => diff_rows(a, a_at, a_stride, b, b_at, b_stride, 4, h, out),
-        _ => diff_rows(a, a_at, a_stride, b, b_at, b_stride, w, h, out),
+    let any = crate::rows::any_rows(a, a_at, a_stride, b, b_at, b_stride, w, h);
+    if any >> depth != 0 {
+        return Answer::Refused(Refusal::Sample);
     }
+    diff_rows(a, a_at, a_stride, b, b_at, b_stride, w, h, out);
+    Answer::Done
 }
 
-// Two blocks of samples, after all other tests: the samples are tested, and only then the differences are written.
+// Blocks of four columns: four rows of them are a literal too.
+fn of_four(
+    a: &[u16],
+    a_at: usize,
+    a_stride: usize,
+    b: &[u16],
+    b_at: usize,
+    b_stride: usize,
+    h: usize,
+    depth: u8,
+    out: &mut [i16],
+) -> Answer
+    requires { ⌜ TwoBlocks 4 h (length (now a)) «a_at» «a_stride» (length (now b)) «b_at» «b_stride» ⌝ }
+    requires { ⌜ (depth ≤ 14) × (h * 4 ≤ length (now out)) ⌝ }
+    ensures { λ r. ⌜ Differed 4 h (strided (now (a .entry)) «a_at» «a_stride» depth) (strided (now (b .entry)) «b_at» «b_stride» depth) (now (out .entry)) (answerNumber r) (now (out .exit)) ⌝ }
+{
+    if h == 4 {
+        return of_width(a, a_at, a_stride, b, b_at, b_stride, 4, 4, depth, out);
+    }
+    of_width(a, a_at, a_stride, b, b_at, b_stride, 4, h, depth, out)
+}
+
+// Blocks of any width: the common ones are literals, for which compilers write straight vector code.
 fn of_blocks(
     a: &[u16],
     a_at: usize,
@@ -107,12 +108,14 @@ fn of_blocks(
     requires { ⌜ (depth ≤ 14) × (h * w ≤ length (now out)) ⌝ }
     ensures { λ r. ⌜ Differed w h (strided (now (a .entry)) «a_at» «a_stride» depth) (strided (now (b .entry)) «b_at» «b_stride» depth) (now (out .entry)) (answerNumber r) (now (out .exit)) ⌝ }
 {
-    let any = crate::any::any_block(a, a_at, a_stride, b, b_at, b_stride, w, h);
-    if any >> depth != 0 {
-        return Answer::Refused(Refusal::Sample);
+    match w {
+        64 => of_width(a, a_at, a_stride, b, b_at, b_stride, 64, h, depth, out),
+        32 => of_width(a, a_at, a_stride, b, b_at, b_stride, 32, h, depth, out),
+        16 => of_width(a, a_at, a_stride, b, b_at, b_stride, 16, h, depth, out),
+        8 => of_width(a, a_at, a_stride, b, b_at, b_stride, 8, h, depth, out),
+        4 => of_four(a, a_at, a_stride, b, b_at, b_stride, h, depth, out),
+        _ => of_width(a, a_at, a_stride, b, b_at, b_stride, w, h, depth, out),
     }
-    diff_block(a, a_at, a_stride, b, b_at, b_stride, w, h, out);
-    Answer::Done
 }
 
 pub fn evce_diff_16b(

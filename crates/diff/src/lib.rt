@@ -1,10 +1,5 @@
-// The distortion calls that form differences, after the Rust's enc/sad.rs: DIFF writes them, SATD sums their tiles.
-mod any;
+// DIFF, after the Rust's enc/sad.rs: the differences of two blocks, written.
 mod diff;
-mod satd;
-mod tiles2;
-mod tiles4;
-mod tiles8;
+mod rows;
 
 pub use diff::evce_diff_16b;
-pub use satd::evce_satd_16b;

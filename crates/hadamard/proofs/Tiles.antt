@@ -62,10 +62,6 @@ pub row-most : (n B : ℕ) (x : List ℤ) → RowWithin B x → rowSizes n x ≤
 unfolding rowSizes
 row-most n B x h = sum-le n B (λ i. natAbs (place x i)) (λ i p. h i)
 
-pub block-most : (n B : ℕ) (m : List (List ℤ)) → BlockWithin B m → blockSizes n m ≤ n * (n * B)
-unfolding blockSizes
-block-most n B m h = sum-le n (n * B) (λ j. rowSizes n (getD m j [])) (λ j p. row-most n B (getD m j []) (h j))
-
 sizes-are : (n : ℕ) (d : List (List ℤ)) → blockSizes n (passed n (passed n d)) ≡ sumN n (λ a. sumN n (λ b. natAbs (coefficient n (entry d) a b)))
 unfolding blockSizes rowSizes
 sizes-are n d =

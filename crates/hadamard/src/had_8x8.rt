@@ -1,6 +1,6 @@
 // `evc_had_8x8`, after the Rust's function of that name. Document 01, "Distortion".
 // Differs from the Rust in: the differences are handed in. A pass also turns the block, so that the column pass finds the columns as rows and
-// is the same step. All coefficients' sizes are added; then the DC's is taken out and a quarter of it put back.
+// is the same step. All coefficients' sizes are added, and the DC's taken out again: it has another share.
 ghost use mathlib.Core.Path.{_≡_};
 ghost use Rattle.evc.specs.Tiles.{tileNumber};
 ghost use Rattle.hadamard.specs.Passes.{entry, RowWithin, BlockWithin, Passed, wholeLine, passed, rowSizes, blockSizes};
@@ -141,5 +141,5 @@ pub fn evc_had_8x8(diff: [[i16; 8]; 8]) -> u32
     let all = sum(c);
     let v = c[0][0];
     let dc = integers::abs_i32(v);
-    (all - dc + dc / 4 + 2) / 4
+    tiles::number_8(all - dc, dc)
 }

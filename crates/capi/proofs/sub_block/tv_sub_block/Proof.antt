@@ -1,4 +1,4 @@
--- `capi::sub_block::tv_sub_block` meets its contract: it is `evc_sub_block_itdq2` on the components as handed in, its answer as a number and a
+-- `capi::sub_block::tv_sub_block` meets its contract: it is `evc_sub_block_itdq2` on the call as handed in, its answer as a number and a
 -- component. Assumes nothing.
 use borrow.Author.Needs.{needs}
 use mir.Facts.{toZ-ofZ}
@@ -6,14 +6,8 @@ use Rattle.capi.proofs.Laws.{sub-told-as}
 use Rattle.capi.proofs.sub_block.tv_sub_block.Statement.{statement}
 use Rattle.capi.proofs.sub_block.tv_sub_block.Tie as tie
 
-part-requires : tie.Need-part-requires
-part-requires c κs = search needs
-
-part-requires-2 : tie.Need-part-requires-2
-part-requires-2 c κs = search needs
-
-part-requires-3 : tie.Need-part-requires-3
-part-requires-3 c κs = search needs
+sub-block-requires : tie.Need-sub-block-requires
+sub-block-requires c κs = search needs
 
 evc-sub-block-itdq2-requires : tie.Need-evc-sub-block-itdq2-requires
 evc-sub-block-itdq2-requires c κs = search needs
@@ -27,18 +21,16 @@ same-length c = search needs
 returns : tie.Need-returns
 returns c =
     let call = c .before .before .before in
-    let v = call .before .before in
-    let offset = v .before .before .before .fits .offset in
-    let done = simp (toZ-ofZ, v .before .before .part .ensures, v .before .part2 .ensures, v .part3 .ensures) at (call .evc-sub-block-itdq2 .ensures) in
+    let given = call .before .before in
+    let offset = given .before .fits .offset in
+    let done = simp (given .sub-block .ensures, toZ-ofZ) at (call .evc-sub-block-itdq2 .ensures) in
     record { told = sub-told-as (done .0) (c .tell-sub-block .ensures); exit = done .1 }
 
 pub tv-sub-block-spec : {M : Type 1} → statement M
 tv-sub-block-spec =
     tie.close
     (tie.spec
-    part-requires
-    part-requires-2
-    part-requires-3
+    sub-block-requires
     evc-sub-block-itdq2-requires
     tell-sub-block-requires
     same-length

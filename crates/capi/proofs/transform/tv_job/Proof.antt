@@ -1,9 +1,12 @@
--- `capi::transform::tv_job` meets its contract: it is `evc_itdq_job`, its answer as a number. Assumes nothing.
+-- `capi::transform::tv_job` meets its contract: it is `evc_itdq_job` on the job as handed in, its answer as a number. Assumes nothing.
 use borrow.Author.Needs.{needs}
 use mathlib.Core.Path.{_∙_}
 use mir.Facts.{toZ-ofZ}
 use Rattle.capi.proofs.transform.tv_job.Statement.{statement}
 use Rattle.capi.proofs.transform.tv_job.Tie as tie
+
+job-requires : tie.Need-job-requires
+job-requires c κs = search needs
 
 evc-itdq-job-requires : tie.Need-evc-itdq-job-requires
 evc-itdq-job-requires c κs = search needs
@@ -16,9 +19,10 @@ same-length c = search needs
 
 returns : tie.Need-returns
 returns c =
-    let offset = c .before .before .before .before .fits .offset in
-    let done = simp toZ-ofZ at (c .before .before .evc-itdq-job .ensures) in
+    let job = c .before .before .before .before in
+    let offset = job .before .fits .offset in
+    let done = simp (job .job .ensures, toZ-ofZ) at (c .before .before .evc-itdq-job .ensures) in
     (c .answer-number .ensures ∙ done .0, done .1)
 
 pub tv-job-spec : {M : Type 1} → statement M
-tv-job-spec = tie.close (tie.spec evc-itdq-job-requires answer-number-requires same-length returns)
+tv-job-spec = tie.close (tie.spec job-requires evc-itdq-job-requires answer-number-requires same-length returns)

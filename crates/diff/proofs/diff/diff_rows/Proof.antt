@@ -9,7 +9,7 @@ use Rattle.integers.proofs.Grid.{Wrote, wrote-start, wrote-row, wrote-end, wrot
 use Rattle.evc.specs.Differences.{diffAt}
 use Rattle.planes.specs.Blocks.{cell}
 use Rattle.diff.specs.Small.{SmallRow, apartFrom}
-use Rattle.diff.proofs.Rows.{small-one, small-two}
+use Rattle.diff.proofs.Tested.{small-one, small-two}
 use Rattle.diff.proofs.diff.diff_rows.Statement.{statement}
 use Rattle.diff.proofs.diff.diff_rows.Tie as tie
 

@@ -1,81 +1,83 @@
--- `of_blocks` meets its contract: what is written was tested. Assumes nothing.
-use mathlib.Core.Path.{_≡_, refl, sym, ap, _∙_}
-use mathlib.Core.Bool.{Bool, true, false}
-use mathlib.Core.List.{[], _∷_}
-use Prim.Native.Nat.{_^_, _≤_}
-use native.Mathlib.Nat.{le-trans}
-use lib.Dec.{leb}
-use lib.Pow.{pow-mono}
+-- `of_blocks` meets its contract. Assumes nothing.
+use mathlib.Core.Path.{refl}
 use borrow.Author.Needs.{needs}
-use borrow.Author.Tests.{le-leb, lt-leb}
-use Rattle.evc.specs.declared.Refusal.the-variants.{Sample}
-use Rattle.integers.proofs.Bits.{div-some, div-none}
-use Rattle.evc.specs.Tests.{_when_, first}
-use Rattle.evc.specs.Calls.{sampleTests}
-use Rattle.evc.proofs.Marks.{below-all}
-use Rattle.planes.specs.Blocks.{cell, strided}
-use Rattle.planes.proofs.Replies.{marked-first}
-use Rattle.diff.specs.Small.{SmallBlocks, apartFrom}
+use Rattle.diff.proofs.Tested.{sides-asked, sides-left}
 use Rattle.diff.proofs.diff.of_blocks.Statement.{statement}
 use Rattle.diff.proofs.diff.of_blocks.Tie as tie
 
--- the number of SAMPLE, by the OR of all samples
-sampled :
-    (c : tie.After-any-block) (t : Bool) →
-    let a = c .before .before .before .args in
-    leb (2 ^ a .depth) (c .any-block .result) ≡ t →
-    first ((Sample when t) ∷ []) ≡ first (sampleTests (a .w) (a .h) (strided (a .a .now) (a .a-at) (a .a-stride) (a .depth)) (strided (a .b .now) (a .b-at) (a .b-stride) (a .depth)))
-sampled c t e =
-    let a = c .before .before .before .args in
-    ap (λ (u : Bool). first ((Sample when u) ∷ [])) (sym e)
-    ∙ marked-first (a .w) (a .h) (a .depth) (strided (a .a .now) (a .a-at) (a .a-stride) (a .depth)) (strided (a .b .now) (a .b-at) (a .b-stride) (a .depth))
-    (cell 0 (a .a .now) (a .a-at) (a .a-stride)) (cell 0 (a .b .now) (a .b-at) (a .b-stride)) (λ j i. refl) (λ j i. refl) (c .any-block .ensures)
+of-width-requires : tie.Need-of-width-requires
+of-width-requires c κs = sides-asked (c .before .match .keys1) refl (c .before .before .before .before .pre)
 
--- a depth of at most 14 and no sample that reaches it: each sample is below 2^14
-small : (c : tie.Else1) → let a = c .before .before .before .before .args in SmallBlocks (a .w) (a .h) (a .a .now) (a .a-at) (a .a-stride) (a .b .now) (a .b-at) (a .b-stride)
-small c =
-    let s = c .before .before .before .before in
-    let a = s .args in
-    let t = c .before .any-block in
-    let p : 2 ^ a .depth ≤ 2 ^ 14 = pow-mono (s .pre .1 .0) in
-    let each = below-all (a .w) (a .h) (a .depth) (cell 0 (a .a .now) (a .a-at) (a .a-stride)) (cell 0 (a .b .now) (a .b-at) (a .b-stride)) (t .result) (t .ensures) (div-none (t .result) (a .depth) (c .if1 .left)) in
-    record { first = λ j i m n. le-trans (each j i m n .0) p; second = λ j i m n. le-trans (each j i m n .1) p }
+of-width-requires-2 : tie.Need-of-width-requires-2
+of-width-requires-2 c κs = sides-asked (c .before .match .keys2) refl (c .before .before .before .before .pre)
 
-any-block-requires : tie.Need-any-block-requires
-any-block-requires c κs = search needs
+of-width-requires-3 : tie.Need-of-width-requires-3
+of-width-requires-3 c κs = sides-asked (c .before .match .keys3) refl (c .before .before .before .before .pre)
 
-shr-if1 : tie.Need-shr-if1
-shr-if1 c = search needs
+of-width-requires-4 : tie.Need-of-width-requires-4
+of-width-requires-4 c κs = sides-asked (c .before .match .keys4) refl (c .before .before .before .before .pre)
 
-returns : tie.Need-returns
-returns c =
-    let a = c .before .before .before .before .args in
-    let t = c .before .any-block .result in
-    record {
-      answer = sampled (c .before) true (le-leb (2 ^ a .depth) t (div-some t (a .depth) (c .if1 .taken)));
-      buffer = refl;
-    }
+of-four-requires : tie.Need-of-four-requires
+of-four-requires c κs = sides-asked (c .before .match .keys5) refl (c .before .before .before .before .pre)
 
-diff-block-requires : tie.Need-diff-block-requires
-diff-block-requires c κs =
-    let s = c .before .before .before .before .before in
-    record { blocks = s .pre .0; small = small (c .before); room = s .pre .1 .1 }
+of-width-requires-5 : tie.Need-of-width-requires-5
+of-width-requires-5 c κs = search needs
 
 same-length : tie.Need-same-length
 same-length c = search needs
 
+returns : tie.Need-returns
+returns c = sides-left (c .before .before .before .match .keys1) refl (c .before .of-width .ensures)
+
+same-length-2 : tie.Need-same-length-2
+same-length-2 c = search needs
+
 returns-2 : tie.Need-returns-2
-unfolding apartFrom
-returns-2 c =
-    let e = c .before .before .before in
-    let a = e .before .before .before .before .args in
-    let t = e .before .any-block .result in
-    record {
-      answer = sampled (e .before) false (lt-leb (2 ^ a .depth) t (div-none t (a .depth) (e .if1 .left)));
-      buffer = c .before .diff-block .ensures;
-    }
+returns-2 c = sides-left (c .before .before .before .match .keys2) refl (c .before .of-width2 .ensures)
+
+same-length-3 : tie.Need-same-length-3
+same-length-3 c = search needs
+
+returns-3 : tie.Need-returns-3
+returns-3 c = sides-left (c .before .before .before .match .keys3) refl (c .before .of-width3 .ensures)
+
+same-length-4 : tie.Need-same-length-4
+same-length-4 c = search needs
+
+returns-4 : tie.Need-returns-4
+returns-4 c = sides-left (c .before .before .before .match .keys4) refl (c .before .of-width4 .ensures)
+
+same-length-5 : tie.Need-same-length-5
+same-length-5 c = search needs
+
+returns-5 : tie.Need-returns-5
+returns-5 c = sides-left (c .before .before .before .match .keys5) refl (c .before .of-four .ensures)
+
+same-length-6 : tie.Need-same-length-6
+same-length-6 c = search needs
+
+returns-6 : tie.Need-returns-6
+returns-6 c = search needs
 
 pub of-blocks-spec : {M : Type 1} → statement M
 of-blocks-spec =
     tie.close
-    (tie.spec any-block-requires shr-if1 returns diff-block-requires same-length returns-2)
+    (tie.spec
+    of-width-requires
+    of-width-requires-2
+    of-width-requires-3
+    of-width-requires-4
+    of-four-requires
+    of-width-requires-5
+    same-length
+    returns
+    same-length-2
+    returns-2
+    same-length-3
+    returns-3
+    same-length-4
+    returns-4
+    same-length-5
+    returns-5
+    same-length-6
+    returns-6)

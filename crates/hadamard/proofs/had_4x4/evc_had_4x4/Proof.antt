@@ -8,7 +8,7 @@ use Rattle.integers.proofs.Bits.{back}
 use Rattle.evc.specs.Tiles.{tileNumber}
 use Rattle.hadamard.specs.Passes.{entry, BlockWithin, passed}
 use Rattle.hadamard.proofs.Blocks.{entry-within}
-use Rattle.hadamard.proofs.Tiles.{ByPasses, shares, block-most}
+use Rattle.hadamard.proofs.Tiles.{ByPasses, shares}
 use Rattle.hadamard.proofs.had_4x4.evc_had_4x4.Statement.{statement}
 use Rattle.hadamard.proofs.had_4x4.evc_had_4x4.Tie as tie
 
@@ -43,19 +43,15 @@ tile c = record {
   first = c .abs-i32 .ensures ∙ ap natAbs (back w32 (entry (c .before .before .before .column-pass .result) 0 0) (c .before .v .given));
 }
 
-sub-result : tie.Need-sub-result
-sub-result c = omega (arith, shares (tile c) .1)
+sub-number-4 : tie.Need-sub-number-4
+sub-number-4 c = omega (arith, shares (tile c) .1)
 
-add-result : tie.Need-add-result
-add-result c = search needs
-
-add-result-2 : tie.Need-add-result-2
-add-result-2 c =
-    omega (arith, tile c .total, block-most 4 524288 (c .before .before .before .column-pass .result) (c .before .before .before .column-pass .ensures .within))
+number-4-requires : tie.Need-number-4-requires
+number-4-requires c κs = tt
 
 returns : tie.Need-returns
 unfolding tileNumber
-returns c = omega (arith, shares (tile c))
+returns c = omega (arith, shares (tile (c .before)), c .number-4 .ensures)
 
 pub evc-had-4x4-spec : {M : Type 1} → statement M
 evc-had-4x4-spec =
@@ -68,7 +64,6 @@ evc-had-4x4-spec =
     index-1-v
     index-2-v
     abs-i32-requires
-    sub-result
-    add-result
-    add-result-2
+    sub-number-4
+    number-4-requires
     returns)

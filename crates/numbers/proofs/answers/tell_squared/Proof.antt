@@ -1,0 +1,27 @@
+-- `numbers::answers::tell_squared` meets its contract: a value that an answer holds fits its place. Assumes nothing.
+use borrow.Author.Needs.{needs}
+use mathlib.Core.Path.{_∙_}
+use mir.Syntax.{w64}
+use mir.Facts.{toZ-ofZ}
+use Rattle.numbers.proofs.answers.tell_squared.Statement.{statement}
+use Rattle.numbers.proofs.answers.tell_squared.Tie as tie
+
+enum-known-d : tie.Need-enum-known-d
+enum-known-d c = search needs
+
+enum-known-d-2 : tie.Need-enum-known-d-2
+enum-known-d-2 c = search needs
+
+refusal-number-requires : tie.Need-refusal-number-requires
+refusal-number-requires c κs = search needs
+
+returns : tie.Need-returns
+returns c =
+    let fits = toZ-ofZ {w = w64} {z = c .before .d .given .0 .0} (record { sfits = c .known-told .given .0 .1 }) in
+    record { number = search needs; value = fits ∙ (search needs) }
+
+returns-2 : tie.Need-returns-2
+returns-2 c = search needs
+
+pub tell-squared-spec : {M : Type 1} → statement M
+tell-squared-spec = tie.close (tie.spec enum-known-d enum-known-d-2 refusal-number-requires returns returns-2)

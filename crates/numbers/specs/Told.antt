@@ -1,0 +1,32 @@
+-- Answers as numbers, and the places that a caller lends for a value or a component. Cited by every contract of src/, and by the exports.
+-- Assumes nothing.
+use Prim.Native.Nat.{ℕ}
+use mathlib.Core.Path.{_≡_}
+use Rattle.evc.specs.declared.Component.{Component}
+use Rattle.evc.specs.declared.Component.the-variants.{Y, U, «V»}
+use Rattle.evc.specs.Answers.{Reply, replyNumber, valueOr, SubReply, accepted, refusedAt}
+
+-- n answers a call with a value: the value stands in the place lent for it; where there is none, what stood there before
+pub record Told {A : Type 0} (reply : Reply A) (before after : A) (n : ℕ) : Type 0 where
+  pub number : n ≡ replyNumber reply
+  pub value : after ≡ valueOr reply before
+
+-- C's number of a component
+abbrev pub componentNumber : Component → ℕ
+componentNumber Y = 0
+componentNumber U = 1
+componentNumber «V» = 2
+
+-- the number of a sub-block's answer, and its component: where it names none, what stood there before
+abbrev pub subNumber : SubReply → ℕ
+subNumber accepted = 0
+subNumber (refusedAt c n) = n
+
+abbrev pub componentOr : SubReply → ℕ → ℕ
+componentOr accepted d = d
+componentOr (refusedAt c n) d = componentNumber c
+
+-- n answers a sub-block call: a refusal's component stands in the place lent for it; an accepted call leaves that place as it was
+pub record SubTold (reply : SubReply) (before after : ℕ) (n : ℕ) : Type 0 where
+  pub number : n ≡ subNumber reply
+  pub component : after ≡ componentOr reply before

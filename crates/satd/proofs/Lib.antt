@@ -1,0 +1,2 @@
+-- Laws that several proofs of this crate need.
+pub mod Tiling

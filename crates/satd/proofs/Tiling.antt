@@ -1,0 +1,198 @@
+-- Tiles of two tested blocks, of any side n: a part of tested blocks is tested; what a tile's differences are; that its number is that of the
+-- definition, and how large it can be. Assumes nothing.
+use mathlib.Core.Path.{_≡_, ap, ap₂, _∙_}
+use mathlib.Core.List.{List, []}
+use Prim.Native.Nat.{ℕ, _+_, _-_, _*_, _/_, _%_, _^_, _≤_, _<_}
+use mathlib.Core.Bool.{Bool, true, false, _||_}
+use native.Mathlib.Nat.{add-mul, mul-le-mul, mul-le-mul-right, le-trans, div-add-mod'}
+use native.Mathlib.Omega.{arith}
+use lib.Dec.{eqb}
+use lib.IntN.{ℤ, pos, natAbs, _-ℤ_, _*ℤ_}
+use lib.ListN.{getD}
+use Rattle.integers.specs.Lists.{tab}
+use Rattle.integers.specs.Sum.{ofZ+, ofN+, sumZ, sumN}
+use Rattle.integers.proofs.Sum.{sum-ext, sum-le}
+use Rattle.integers.proofs.Written.{tab-at}
+use Rattle.evc.specs.Tiles.{sign, coefficient, share, rounded, tileSum, tileNumber, tile, tileSide, satdTotal}
+use Rattle.evc.specs.Answers.{refused}
+use Rattle.evc.specs.Tests.{first, reply, outside}
+use Rattle.evc.specs.Planes.{Block}
+use Rattle.evc.specs.Differences.{difference}
+use Rattle.evc.specs.Calls.{compareTests, sampleTests, satdSizes, satdReply}
+use Rattle.hadamard.specs.Passes.{entry}
+use Rattle.hadamard.proofs.Most.{number-most}
+use Rattle.integers.proofs.Parts.{abs-dif-le}
+use Rattle.planes.specs.Blocks.{cell, rest}
+use Rattle.planes.proofs.Replies.{Alike, dif-alike, at-size, at-depth, at-area, at-second, at-rest}
+use Rattle.diff.specs.Small.{Tested, apartFrom}
+
+-- ---- laws of the definitions
+-- tiles whose differences agree have one number
+pub number-ext : (n : ℕ) (d e : ℕ → ℕ → ℤ) → ((j i : ℕ) → j < n → i < n → d j i ≡ e j i) → tileNumber n d ≡ tileNumber n e
+unfolding tileNumber tileSum coefficient
+number-ext n d e h =
+    ap (rounded n)
+    (sum-ext ofN+ n (λ a. sumN n (λ b. share a b (natAbs (coefficient n d a b)))) (λ a. sumN n (λ b. share a b (natAbs (coefficient n e a b))))
+    (λ a p. sum-ext ofN+ n (λ b. share a b (natAbs (coefficient n d a b))) (λ b. share a b (natAbs (coefficient n e a b)))
+    (λ b q. ap (λ (z : ℤ). share a b (natAbs z)) (coefficients a b))))
+  where
+    coefficients : (a b : ℕ) → coefficient n d a b ≡ coefficient n e a b
+    coefficients a b =
+        sum-ext ofZ+ n (λ j. sumZ n (λ i. d j i *ℤ sign a j *ℤ sign b i)) (λ j. sumZ n (λ i. e j i *ℤ sign a j *ℤ sign b i))
+        (λ j p. sum-ext ofZ+ n (λ i. d j i *ℤ sign a j *ℤ sign b i) (λ i. e j i *ℤ sign a j *ℤ sign b i)
+        (λ i q. ap (λ (z : ℤ). z *ℤ sign a j *ℤ sign b i) (h j i p q)))
+
+module _ {w h : ℕ} {a : List ℕ} {s t : ℕ} {b : List ℕ} {s′ t′ : ℕ} (k : Tested w h a s t b s′ t′) where
+  -- ---- parts of tested blocks: n columns from x on, and n rows from y on
+  pub tested-columns : (x n : ℕ) → x + n ≤ w → Tested n h a (s + x) t b (s′ + x) t′
+  unfolding cell
+  tested-columns x n p = record {
+    blocks =
+        record {
+          narrow = omega (arith, k .blocks .narrow);
+          low = k .blocks .low;
+          one = omega (arith, k .blocks .one);
+          two = omega (arith, k .blocks .two);
+        };
+    small =
+        record {
+          first = λ j i m q. let e : s + x + j * t + i ≡ s + j * t + (x + i) = omega arith in rw e (k .small .first j (x + i) m (omega arith));
+          second = λ j i m q. let e : s′ + x + j * t′ + i ≡ s′ + j * t′ + (x + i) = omega arith in rw e (k .small .second j (x + i) m (omega arith));
+        };
+  }
+
+  pub tested-rows : (y n : ℕ) → 1 ≤ n → y + n ≤ h → Tested w n a (s + y * t) t b (s′ + y * t′) t′
+  unfolding cell
+  tested-rows y n o p =
+      let c : (y + (n - 1)) * t ≤ (h - 1) * t = mul-le-mul-right t (omega arith) in
+      let d : (y + (n - 1)) * t′ ≤ (h - 1) * t′ = mul-le-mul-right t′ (omega arith) in
+      let c′ = add-mul y (n - 1) t in
+      let d′ = add-mul y (n - 1) t′ in
+      record {
+        blocks =
+            record {
+              narrow = k .blocks .narrow;
+              low = omega (arith, k .blocks .low);
+              one = omega (arith, k .blocks .one);
+              two = omega (arith, k .blocks .two);
+            };
+        small =
+            record {
+              first = λ j i m q. let f = add-mul y j t in let e : s + y * t + j * t + i ≡ s + (y + j) * t + i = omega arith in rw e (k .small .first (y + j) i (omega arith) q);
+              second = λ j i m q. let f = add-mul y j t′ in let e : s′ + y * t′ + j * t′ + i ≡ s′ + (y + j) * t′ + i = omega arith in rw e (k .small .second (y + j) i (omega arith) q);
+            };
+      }
+
+  -- no difference is above 16383 in size
+  pub tested-most : (j i : ℕ) → j < h → i < w → natAbs (apartFrom a s t b s′ t′ j i) ≤ 16383
+  unfolding apartFrom
+  tested-most j i m q =
+      abs-dif-le 16383 (cell 0 a s t j i) (cell 0 b s′ t′ j i) (omega (arith, k .small .first j i m q)) (omega (arith, k .small .second j i m q))
+
+  -- so no tile's number is above this
+  pub tile-most : (n v u : ℕ) → v * n + n ≤ h → u * n + n ≤ w → tileNumber n (tile n (apartFrom a s t b s′ t′) v u) ≤ n * (n * (n * (n * 16383)))
+  tile-most n v u p q =
+      number-most n 16383 (tile n (apartFrom a s t b s′ t′) v u) (λ j i m r. tested-most (v * n + j) (u * n + i) (omega arith) (omega arith))
+
+  -- nor the numbers of a row of at most 64 tiles
+  pub tiles-most :
+      (n v k : ℕ) → v * n + n ≤ h → ((u : ℕ) → u < k → u * n + n ≤ w) → k ≤ 64 →
+      sumN k (λ u. tileNumber n (tile n (apartFrom a s t b s′ t′) v u)) ≤ 64 * (n * (n * (n * (n * 16383))))
+  tiles-most n v k p q r =
+      le-trans (sum-le k (n * (n * (n * (n * 16383)))) (λ u. tileNumber n (tile n (apartFrom a s t b s′ t′) v u)) (λ u m. tile-most n v u p (q u m)))
+      (mul-le-mul-right (n * (n * (n * (n * 16383)))) r)
+
+  -- nor the total of at most k by k tiles
+  pub satd-most :
+      (n k : ℕ) → ((v : ℕ) → v < h / n → v * n + n ≤ h) → ((u : ℕ) → u < w / n → u * n + n ≤ w) → h / n ≤ k → w / n ≤ k →
+      satdTotal n w h (apartFrom a s t b s′ t′) ≤ k * (k * (n * (n * (n * (n * 16383)))))
+  unfolding satdTotal
+  satd-most n k p q x y =
+      let c = n * (n * (n * (n * 16383))) in
+      le-trans
+      (sum-le (h / n) (w / n * c) (λ v. sumN (w / n) (λ u. tileNumber n (tile n (apartFrom a s t b s′ t′) v u)))
+      (λ v m. sum-le (w / n) c (λ u. tileNumber n (tile n (apartFrom a s t b s′ t′) v u)) (λ u l. tile-most n v u (p v m) (q u l))))
+      (mul-le-mul x (mul-le-mul-right c y))
+
+-- ---- what a tile's differences are
+module _ (n : ℕ) (a : List ℕ) (s t : ℕ) (b : List ℕ) (s′ t′ : ℕ) where
+  made : (d : ℕ → ℕ → ℤ) (j i : ℕ) → j < n → i < n → entry (tab n (λ j. tab n (d j))) j i ≡ d j i
+  made d j i p q = ap (λ (x : List ℤ). getD x i (pos 0)) (tab-at n (λ j. tab n (d j)) j [] p) ∙ tab-at n (d j) i (pos 0) q
+
+  none : (t j : ℕ) → (0 * n + j) * t ≡ j * t
+  none t j = let e : 0 * n + j ≡ j = omega arith in ap (λ (m : ℕ). m * t) e
+
+  -- a tile of the first row of tiles, from the differences that were handed to it
+  pub tile-is :
+      (u r : ℕ) (m : List (List ℤ)) → m ≡ tab n (λ j. tab n (apartFrom a (s + u * n) t b (s′ + u * n) t′ j)) → r ≡ tileNumber n (entry m) →
+      r ≡ tileNumber n (tile n (apartFrom a s t b s′ t′) 0 u)
+  unfolding apartFrom cell
+  tile-is u r m e f =
+      f ∙ ap (λ (x : List (List ℤ)). tileNumber n (entry x)) e
+      ∙ number-ext n (entry (tab n (λ j. tab n (apartFrom a (s + u * n) t b (s′ + u * n) t′ j)))) (tile n (apartFrom a s t b s′ t′) 0 u)
+      (λ j i p q. made (apartFrom a (s + u * n) t b (s′ + u * n) t′) j i p q ∙ ap₂ (λ (x y : ℕ). pos (getD a x 0) -ℤ pos (getD b y 0)) (place s t j i) (place s′ t′ j i))
+    where
+      place : (s t j i : ℕ) → s + u * n + j * t + i ≡ s + (0 * n + j) * t + (u * n + i)
+      place s t j i = let e = none t j in omega arith
+
+  -- a row of tiles further down
+  pub tiles-are :
+      (v k r : ℕ) → r ≡ sumN k (λ u. tileNumber n (tile n (apartFrom a (s + v * n * t) t b (s′ + v * n * t′) t′) 0 u)) →
+      r ≡ sumN k (λ u. tileNumber n (tile n (apartFrom a s t b s′ t′) v u))
+  unfolding apartFrom cell
+  tiles-are v k r e =
+      e
+      ∙ sum-ext ofN+ k (λ u. tileNumber n (tile n (apartFrom a (s + v * n * t) t b (s′ + v * n * t′) t′) 0 u)) (λ u. tileNumber n (tile n (apartFrom a s t b s′ t′) v u))
+      (λ u m. number-ext n (tile n (apartFrom a (s + v * n * t) t b (s′ + v * n * t′) t′) 0 u) (tile n (apartFrom a s t b s′ t′) v u)
+      (λ j i p q. ap₂ (λ (x y : ℕ). pos (getD a x 0) -ℤ pos (getD b y 0)) (place s t j (u * n + i)) (place s′ t′ j (u * n + i))))
+    where
+      place : (s t j x : ℕ) → s + v * n * t + (0 * n + j) * t + x ≡ s + (v * n + j) * t + x
+      place s t j x = let e = none t j in let d = add-mul (v * n) j t in omega arith
+
+-- ---- blocks that are read alike have one total
+tile-inside : (n h v j : ℕ) → v < h / n → j < n → v * n + j < h
+tile-inside n h v j p q =
+    let e = div-add-mod' h n in
+    let f : (v + 1) * n ≤ h / n * n = mul-le-mul-right n (omega arith) in
+    let g = add-mul v 1 n in
+    omega arith
+
+pub satd-alike : {w h : ℕ} {a a′ b b′ : Block} → Alike w h a a′ → Alike w h b b′ → (n : ℕ) → satdTotal n w h (difference a b) ≡ satdTotal n w h (difference a′ b′)
+unfolding satdTotal
+satd-alike {w} {h} {a} {a′} {b} {b′} p q n =
+    sum-ext ofN+ (h / n) (λ v. sumN (w / n) (λ u. tileNumber n (tile n (difference a b) v u))) (λ v. sumN (w / n) (λ u. tileNumber n (tile n (difference a′ b′) v u)))
+    (λ v m. sum-ext ofN+ (w / n) (λ u. tileNumber n (tile n (difference a b) v u)) (λ u. tileNumber n (tile n (difference a′ b′) v u))
+    (λ u k. number-ext n (tile n (difference a b) v u) (tile n (difference a′ b′) v u)
+    (λ j i r s. dif-alike p q (v * n + j) (u * n + i) (tile-inside n h v j m r) (tile-inside n w u i k s))))
+
+-- ---- how a call of SATD ends
+module _ (w h depth : ℕ) (a b : Block) where
+  abbrev uneven : ℕ → Bool
+  uneven x = outside 2 64 x || eqb (x % 2) 1
+
+  abbrev satdValue : ℕ
+  satdValue = satdTotal (tileSide w h) w h (difference a b) / 2 ^ (depth - 8)
+
+  -- from the number to the answer
+  satd-of : (n : ℕ) → n ≡ first (compareTests (satdSizes w h) w h depth a b) → reply n satdValue ≡ satdReply w h depth a b
+  unfolding satdReply
+  satd-of n e = ap (λ (m : ℕ). reply m satdValue) e
+
+  pub satd-size : uneven w || uneven h ≡ true → refused 1 ≡ satdReply w h depth a b
+  satd-size e = satd-of 1 (at-size (uneven w) (uneven h) depth (a .area) (b .area) (sampleTests w h a b) e)
+
+  module _ (e : uneven w || uneven h ≡ false) where
+    pub satd-depth : outside 8 14 depth ≡ true → refused 4 ≡ satdReply w h depth a b
+    satd-depth f = satd-of 4 (at-depth (uneven w) (uneven h) depth (a .area) (b .area) (sampleTests w h a b) e f)
+
+    module _ (f : outside 8 14 depth ≡ false) where
+      pub satd-area : a .area ≡ true → refused 5 ≡ satdReply w h depth a b
+      satd-area g = satd-of 5 (at-area (uneven w) (uneven h) depth (a .area) (b .area) (sampleTests w h a b) e f g)
+
+      module _ (g : a .area ≡ false) where
+        pub satd-second : b .area ≡ true → refused 5 ≡ satdReply w h depth a b
+        satd-second k = satd-of 5 (at-second (uneven w) (uneven h) depth (a .area) (b .area) (sampleTests w h a b) e f g k)
+
+        pub satd-rest : b .area ≡ false → rest w h a b satdValue ≡ satdReply w h depth a b
+        unfolding rest
+        satd-rest k = satd-of (first (sampleTests w h a b)) (at-rest (uneven w) (uneven h) depth (a .area) (b .area) (sampleTests w h a b) e f g k)

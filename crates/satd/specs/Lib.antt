@@ -1,0 +1,2 @@
+-- What the contracts of the helpers below src/ cite, beyond document 01's own definitions (evc/specs) and those of planes and diff.
+pub mod Rests

@@ -1,0 +1,9 @@
+// SATD, after the Rust's enc/sad.rs: the differences of two blocks, summed tile by tile.
+mod any;
+mod rows;
+mod satd;
+mod tiles2;
+mod tiles4;
+mod tiles8;
+
+pub use satd::evce_satd_16b;
