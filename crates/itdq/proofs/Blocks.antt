@@ -1,53 +1,32 @@
--- The work on one area, as the code leaves it: dequantized, through stage one into the block between, through stage two back. Assumes nothing.
+-- Both stages on one block, as the code leaves it: through stage one into the block between, through stage two back. Assumes nothing.
 use Prim.Native.Nat.{ℕ, _+_, _^_, _≤_}
 use native.Mathlib.Nat.{add-comm}
 use native.Mathlib.Omega.{arith}
 use lib.Pow.{pow-mono}
 use mathlib.Core.Path.{_≡_, ap, _∙_}
-use mathlib.Core.List.{List, map}
-use lib.ListN.{length, length-map}
+use mathlib.Core.List.{List}
+use lib.ListN.{length}
 use lib.IntN.{ℤ}
 use Rattle.integers.proofs.Written.{tab-length}
-use Rattle.evc.specs.declared.Job.{Job}
 use Rattle.evc.specs.Tests.{samplesOf}
 use Rattle.evc.specs.Table.{tm}
-use Rattle.evc.specs.Dequantizer.{scale, dequantized, dquantExit}
 use Rattle.evc.specs.Stages.{itxb0Exit, itxb1Exit, stageOne}
-use Rattle.evc.specs.Jobs.{width, height, block}
-use Rattle.dquant.proofs.Calls.{dquant-whole}
 use Rattle.halving.proofs.Calls.{stage-one-whole, stage-two-whole}
-use Rattle.itdq.specs.Ranges.{Whole}
+use Rattle.itdq.specs.Blocks.{Block, bothStages}
 
--- an area has at most 4,096 samples
-pub whole-most : {n : ℕ} {j : Job} → Whole n j → n ≤ 4096
-whole-most {n} {j} w =
-    let h : 2 ^ (j .logw + j .logh) ≤ 2 ^ 12 = pow-mono {j = 12} (omega arith) in
-    omega arith
+turned : (logw logh : ℕ) → samplesOf logw logh ≡ samplesOf logh logw
+turned logw logh = ap (λ (k : ℕ). 2 ^ k) (add-comm logw logh)
 
-module _ (j : Job) (p : List ℤ) (w : Whole (length p) j) where
-  -- p dequantized
-  abbrev one : List ℤ
-  one = map (dequantized (scale (j .qp)) (j .offset) (j .dqshift)) p
+module _ (logw logh shift : ℕ) where
+  -- a block has at most 4,096 samples
+  pub block-most : {n : ℕ} → Block n logw logh shift → n ≤ 4096
+  block-most {n} w =
+      let h : 2 ^ (logw + logh) ≤ 2 ^ 12 = pow-mono {j = 12} (omega (arith, w .w6, w .h6)) in
+      omega (arith, w .long)
 
-  abbrev two : List ℤ
-  two = stageOne (tm (height j)) (height j) (width j) one
-
-  one-long : length one ≡ samplesOf (j .logw) (j .logh)
-  one-long = length-map p _ ∙ w .long
-
-  turned : samplesOf (j .logw) (j .logh) ≡ samplesOf (j .logh) (j .logw)
-  turned = ap (λ (k : ℕ). 2 ^ k) (add-comm (j .logw) (j .logh))
-
-  two-long : length two ≡ samplesOf (j .logw) (j .logh)
-  two-long = tab-length _ _ ∙ one-long
-
-  pub block-steps : (by off : ℤ) (a b m n : List ℤ) → length m ≡ length p → by ≡ scale (j .qp) → off ≡ j .offset
-      → a ≡ dquantExit (j .logw) (j .logh) by off (j .dqshift) p
-      → n ≡ itxb0Exit (j .logh) (j .logw) a m
-      → b ≡ itxb1Exit (j .logw) (j .logh) (j .itshift) n a
-      → b ≡ block j p
-  unfolding block
-  block-steps by off a b m n l e f ea en eb =
-      let a1 : a ≡ one = ea ∙ rw (e, f) (dquant-whole (j .logw) (j .logh) (scale (j .qp)) (j .offset) (j .dqshift) p (w .w6) (w .h6) (w .dq31) (w .long) .1) in
-      let n1 : n ≡ two = en ∙ rw a1 (stage-one-whole (j .logh) (j .logw) one m (w .h1) (w .h6) (w .w6) (one-long ∙ turned) (l ∙ w .long ∙ turned) .1) in
-      eb ∙ rw (n1, a1) (stage-two-whole (j .logw) (j .logh) two one (w .w1) (w .w6) (w .h6) two-long one-long (j .itshift) (w .it31) .1)
+  pub both-steps : (p m n b : List ℤ) → Block (length p) logw logh shift → length m ≡ length p
+      → n ≡ itxb0Exit logh logw p m → b ≡ itxb1Exit logw logh shift n p → b ≡ bothStages logw logh shift p
+  unfolding bothStages
+  both-steps p m n b w l en eb =
+      let n1 : n ≡ stageOne (tm (2 ^ logh)) (2 ^ logh) (2 ^ logw) p = en ∙ stage-one-whole logh logw p m (w .h1) (w .h6) (w .w6) (w .long ∙ turned logw logh) (l ∙ w .long ∙ turned logw logh) .1 in
+      eb ∙ rw n1 (stage-two-whole logw logh (stageOne (tm (2 ^ logh)) (2 ^ logh) (2 ^ logw) p) p (w .w1) (w .w6) (w .h6) (tab-length _ _ ∙ w .long) (w .long) shift (w .s31) .1)

@@ -1,17 +1,15 @@
-// The work on one area: dequantizer, stage one, stage two, after the Rust's `evc_itdq`. Document 01, "The two stages".
-// Differs from the Rust in: the area is lent as a part of the buffer and no longer; offset and shifts are given; the block between the stages
-// is no longer than 64, 1,024 or 4,096 samples, since clearing it costs more than a small job.
+// What a job does on its area: the scale of its qp, and both stages. Document 01, "The two stages".
+// Differs from the Rust in: the area is lent as a part of the buffer and no longer; shifts are given; the block between the stages is no
+// longer than 16, 64, 1,024 or 4,096 samples, since clearing it costs more than a small job.
 ghost use mathlib.Core.Path.{_≡_};
 ghost use Prim.Native.Nat.{_≤_};
 ghost use lib.ListN.{length};
 ghost use Rattle.evc.specs.Dequantizer.{scale};
-ghost use Rattle.evc.specs.Jobs.{block};
-ghost use Rattle.itdq.specs.Ranges.{Whole};
-use evc::Job;
+ghost use Rattle.itdq.specs.Blocks.{Block, bothStages};
 use evc::Scale;
 
 // The scale of a qp that has passed its test, so that the second arm is never taken.
-fn scale_of(qp: u8) -> i32
+pub(crate) fn scale_of(qp: u8) -> i32
     requires { ⌜ qp ≤ 63 ⌝ }
     ensures { λ r. ⌜ r ≡ scale qp ⌝ }
 {
@@ -22,67 +20,70 @@ fn scale_of(qp: u8) -> i32
     }
 }
 
-// The three steps, with as much room between the stages as the area has. Stage one has the size height and width lines, stage two the
-// size width and height lines.
-fn steps(part: &mut [i16], between: &mut [i32], job: Job)
-    requires { ⌜ Whole (length (now part)) job ⌝ }
+// Both stages, with as much room between them as the area has. Stage one has the size height and width lines, stage two the size width and
+// height lines.
+fn stages_over(part: &mut [i16], between: &mut [i32], logw: usize, logh: usize, shift: u8)
+    requires { ⌜ Block (length (now part)) logw logh shift ⌝ }
     requires { ⌜ length (now between) ≡ length (now part) ⌝ }
-    ensures { λ _. ⌜ now (part .exit) ≡ block job (now (part .entry)) ⌝ }
+    ensures { λ _. ⌜ now (part .exit) ≡ bothStages logw logh shift (now (part .entry)) ⌝ }
 {
-    let by = scale_of(job.qp);
-    dquant::evc_dquant(
-        &mut part[..],
-        job.logw,
-        job.logh,
-        by,
-        job.offset,
-        job.dqshift,
-    );
-    stages::itxb0(&part[..], &mut between[..], job.logh, job.logw);
-    stages::itxb1(&between[..], &mut part[..], job.logw, job.logh, job.itshift);
+    stages::itxb0(&part[..], &mut between[..], logh, logw);
+    stages::itxb1(&between[..], &mut part[..], logw, logh, shift);
 }
 
-// The block between the stages is the job's own: of the smallest of three sizes that is enough.
-fn small(part: &mut [i16], job: Job)
-    requires { ⌜ Whole (length (now part)) job ⌝ }
+// The block between the stages is the job's own: of the smallest of four sizes that is enough.
+fn tiny(part: &mut [i16], logw: usize, logh: usize, shift: u8)
+    requires { ⌜ Block (length (now part)) logw logh shift ⌝ }
+    requires { ⌜ length (now part) ≤ 16 ⌝ }
+    ensures { λ _. ⌜ now (part .exit) ≡ bothStages logw logh shift (now (part .entry)) ⌝ }
+{
+    let n = part.len();
+    let mut between = [0i32; 16];
+    stages_over(&mut part[..], &mut between[..n], logw, logh, shift);
+}
+
+fn small(part: &mut [i16], logw: usize, logh: usize, shift: u8)
+    requires { ⌜ Block (length (now part)) logw logh shift ⌝ }
     requires { ⌜ length (now part) ≤ 64 ⌝ }
-    ensures { λ _. ⌜ now (part .exit) ≡ block job (now (part .entry)) ⌝ }
+    ensures { λ _. ⌜ now (part .exit) ≡ bothStages logw logh shift (now (part .entry)) ⌝ }
 {
     let n = part.len();
     let mut between = [0i32; 64];
-    steps(&mut part[..], &mut between[..n], job);
+    stages_over(&mut part[..], &mut between[..n], logw, logh, shift);
 }
 
-fn middle(part: &mut [i16], job: Job)
-    requires { ⌜ Whole (length (now part)) job ⌝ }
+fn middle(part: &mut [i16], logw: usize, logh: usize, shift: u8)
+    requires { ⌜ Block (length (now part)) logw logh shift ⌝ }
     requires { ⌜ length (now part) ≤ 1024 ⌝ }
-    ensures { λ _. ⌜ now (part .exit) ≡ block job (now (part .entry)) ⌝ }
+    ensures { λ _. ⌜ now (part .exit) ≡ bothStages logw logh shift (now (part .entry)) ⌝ }
 {
     let n = part.len();
     let mut between = [0i32; 1024];
-    steps(&mut part[..], &mut between[..n], job);
+    stages_over(&mut part[..], &mut between[..n], logw, logh, shift);
 }
 
-fn large(part: &mut [i16], job: Job)
-    requires { ⌜ Whole (length (now part)) job ⌝ }
+fn large(part: &mut [i16], logw: usize, logh: usize, shift: u8)
+    requires { ⌜ Block (length (now part)) logw logh shift ⌝ }
     requires { ⌜ length (now part) ≤ 4096 ⌝ }
-    ensures { λ _. ⌜ now (part .exit) ≡ block job (now (part .entry)) ⌝ }
+    ensures { λ _. ⌜ now (part .exit) ≡ bothStages logw logh shift (now (part .entry)) ⌝ }
 {
     let n = part.len();
     let mut between = [0i32; 4096];
-    steps(&mut part[..], &mut between[..n], job);
+    stages_over(&mut part[..], &mut between[..n], logw, logh, shift);
 }
 
-// The block's work on exactly its area.
-pub(crate) fn transform(part: &mut [i16], job: Job)
-    requires { ⌜ Whole (length (now part)) job ⌝ }
-    ensures { λ _. ⌜ now (part .exit) ≡ block job (now (part .entry)) ⌝ }
+// Both stages on exactly an area.
+pub(crate) fn both_stages(part: &mut [i16], logw: usize, logh: usize, shift: u8)
+    requires { ⌜ Block (length (now part)) logw logh shift ⌝ }
+    ensures { λ _. ⌜ now (part .exit) ≡ bothStages logw logh shift (now (part .entry)) ⌝ }
 {
-    if part.len() <= 64 {
-        small(&mut part[..], job);
+    if part.len() <= 16 {
+        tiny(&mut part[..], logw, logh, shift);
+    } else if part.len() <= 64 {
+        small(&mut part[..], logw, logh, shift);
     } else if part.len() <= 1024 {
-        middle(&mut part[..], job);
+        middle(&mut part[..], logw, logh, shift);
     } else {
-        large(&mut part[..], job);
+        large(&mut part[..], logw, logh, shift);
     }
 }

@@ -1,8 +1,11 @@
--- `itdq::block::transform` meets its contract. Assumes nothing.
-use Rattle.itdq.proofs.Blocks.{whole-most}
+-- `itdq::block::both_stages` meets its contract. Assumes nothing.
+use Rattle.itdq.proofs.Blocks.{block-most}
 use borrow.Author.Needs.{needs}
-use Rattle.itdq.proofs.block.transform.Statement.{statement}
-use Rattle.itdq.proofs.block.transform.Tie as tie
+use Rattle.itdq.proofs.block.both_stages.Statement.{statement}
+use Rattle.itdq.proofs.block.both_stages.Tie as tie
+
+tiny-requires : tie.Need-tiny-requires
+tiny-requires c κs = search needs
 
 small-requires : tie.Need-small-requires
 small-requires c κs = search needs
@@ -11,7 +14,7 @@ middle-requires : tie.Need-middle-requires
 middle-requires c κs = search needs
 
 large-requires : tie.Need-large-requires
-large-requires c κs = (c .before .before .before .pre, whole-most (c .before .before .before .pre))
+large-requires c κs = (c .before .before .before .before .pre, block-most _ _ _ (c .before .before .before .before .pre))
 
 same-length : tie.Need-same-length
 same-length c = search needs
@@ -31,10 +34,17 @@ same-length-3 c = search needs
 returns-3 : tie.Need-returns-3
 returns-3 c = search needs
 
-pub transform-spec : {M : Type 1} → statement M
-transform-spec =
+same-length-4 : tie.Need-same-length-4
+same-length-4 c = search needs
+
+returns-4 : tie.Need-returns-4
+returns-4 c = search needs
+
+pub both-stages-spec : {M : Type 1} → statement M
+both-stages-spec =
     tie.close
     (tie.spec
+    tiny-requires
     small-requires
     middle-requires
     large-requires
@@ -43,4 +53,6 @@ transform-spec =
     same-length-2
     returns-2
     same-length-3
-    returns-3)
+    returns-3
+    same-length-4
+    returns-4)
