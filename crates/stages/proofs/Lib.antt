@@ -1,0 +1,2 @@
+-- The laws of a call that none of the crates below did.
+pub mod Nobody

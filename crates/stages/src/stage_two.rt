@@ -1,0 +1,37 @@
+// Stage two. Differs from the Rust in: a call that breaks a test is refused and changes nothing.
+ghost use mathlib.Core.Path.{_≡_};
+ghost use mathlib.Core.Bool.{false};
+ghost use lib.ListN.{length};
+ghost use Rattle.evc.specs.Answers.{answerNumber};
+ghost use Rattle.evc.specs.Stages.{stageTwoNumber, itxb1Exit};
+ghost use Rattle.halving.specs.Own.{ownTwo};
+use evc::Answer;
+
+// What `straight` does not do, called in two places as in stage one.
+fn large(src: &[i32], dst: &mut [i16], log2_size: usize, log2_line: usize, shift: u8) -> Answer
+    requires { ⌜ ownTwo 1 3 0 «log2_size» «log2_line» shift (now src) (now dst) ≡ false ⌝ }
+    ensures answer { λ r. ⌜ answerNumber r ≡ stageTwoNumber (length (now (src .entry))) (length (now (dst .entry))) «log2_size» «log2_line» shift ⌝ }
+    ensures exit { λ _. ⌜ now (dst .exit) ≡ itxb1Exit «log2_size» «log2_line» shift (now (src .entry)) (now (dst .entry)) ⌝ }
+{
+    if blocks::itxb1(src, dst, log2_size, log2_line, shift) {
+        return Answer::Done;
+    }
+    if itx::itxb1(src, dst, log2_size, log2_line, shift) {
+        return Answer::Done;
+    }
+    refusals::stage_two(src.len(), dst.len(), log2_size, log2_line, shift)
+}
+
+// Stage two of size 2^log2_size on 2^log2_line lines.
+pub fn itxb1(src: &[i32], dst: &mut [i16], log2_size: usize, log2_line: usize, shift: u8) -> Answer
+    ensures answer { λ r. ⌜ answerNumber r ≡ stageTwoNumber (length (now (src .entry))) (length (now (dst .entry))) «log2_size» «log2_line» shift ⌝ }
+    ensures exit { λ _. ⌜ now (dst .exit) ≡ itxb1Exit «log2_size» «log2_line» shift (now (src .entry)) (now (dst .entry)) ⌝ }
+{
+    if 3 < log2_size {
+        return large(&src[..], dst, log2_size, log2_line, shift);
+    }
+    if straight::itxb1(src, dst, log2_size, log2_line, shift) {
+        return Answer::Done;
+    }
+    large(&src[..], dst, log2_size, log2_line, shift)
+}
