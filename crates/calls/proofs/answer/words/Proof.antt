@@ -1,9 +1,13 @@
--- `calls::answer::words` is safe and ends, as `shorts` does. Assumes nothing.
+-- `calls::answer::words` is safe and ends: the numbers that are left are the measure. Assumes nothing.
 use borrow.Author.Needs.{needs}
 use Prim.Native.Nat.{_-_}
 use lib.ListN.{length}
 use Rattle.calls.proofs.answer.words.Statement.{statement}
 use Rattle.calls.proofs.answer.words.Tie as tie
+use Rattle.calls.proofs.out.byte.Reads as byte-reads
+use Rattle.calls.proofs.out.signed.Reads as signed-reads
+use Rattle.calls.proofs.out.text.Reads as text-reads
+use Rattle.calls.proofs.sign.wide_32.Reads as wide-32-reads
 
 abbrev Inv-loop : tie.InvT-loop
 Inv-loop out₀ used s n₀ i₀ out n i = Unit {0}
@@ -44,9 +48,6 @@ loop-less c = search needs
 loop-again : tie.Need-loop-again Inv-loop μ-loop
 loop-again c = search needs
 
-byte-requires-2 : tie.Need-byte-requires-2 Inv-loop μ-loop
-byte-requires-2 c κs = search needs
-
 returns : tie.Need-returns Inv-loop μ-loop
 returns c = search needs
 
@@ -67,5 +68,4 @@ words-spec =
     add-i
     loop-less
     loop-again
-    byte-requires-2
     returns)

@@ -4,6 +4,8 @@ use Prim.Native.Nat.{_-_}
 use lib.ListN.{length}
 use Rattle.calls.proofs.token.digits_at.Statement.{statement}
 use Rattle.calls.proofs.token.digits_at.Tie as tie
+use Rattle.calls.proofs.token.digit.Reads as digit-reads
+use Rattle.calls.proofs.token.with_digit.Reads as with-digit-reads
 
 abbrev Inv-loop : tie.InvT-loop
 Inv-loop line at size₀ large₀ i₀ size large i = Unit {0}
