@@ -28,7 +28,7 @@ fn diff(n: &Numbers, org: &[u16], cur: &[u16], diff: &mut [i16]) -> Said {
 }
 
 fn satd(n: &Numbers, org: &[u16], cur: &[u16]) -> Said {
-    let a = diff::evce_satd_16b(
+    let a = satd::evce_satd_16b(
         org,
         size(n, 0),
         size(n, 1),
