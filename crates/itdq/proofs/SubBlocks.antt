@@ -1,5 +1,6 @@
 -- What an accepted sub-block call leaves. Assumes nothing.
 use mathlib.Core.Path.{_≡_, refl, sym, _∙_}
+use mathlib.Core.Bool.{Bool, true}
 use mathlib.Core.List.{List, [], _∷_, _++_}
 use lib.ListN.{length}
 use lib.IntN.{ℤ}
@@ -7,13 +8,18 @@ use Rattle.order.specs.Jobs.{Kind, after, jobs}
 use Rattle.evc.specs.declared.Job.{Job}
 use Rattle.evc.specs.declared.SubBlock.{SubBlock}
 use Rattle.evc.specs.Answers.{accepted}
-use Rattle.evc.specs.Jobs.{blockJobs}
+use Rattle.evc.specs.Jobs.{blockJobs, jobExit}
 use Rattle.evc.specs.SubBlocks.{luma, chroma, given, subReply, subExit}
 
 -- one list of jobs after another
 jobs-append : {A J : Type 0} (w : Kind A J) (js ks : List J) (b : List A) → jobs w (js ++ ks) b ≡ jobs w ks (jobs w js b)
 jobs-append w [] ks b = refl
 jobs-append w (j ∷ js) ks b = jobs-append w js ks (after w j b)
+
+-- a flagged component leaves what its job leaves
+pub flagged-job : (t : Bool) (j : Job) (b : List ℤ) → t ≡ true → jobExit j b ≡ jobs blockJobs (given t (j ∷ [])) b
+unfolding jobExit
+flagged-job t j b e = rw e
 
 -- what the three components leave, one after the other
 pub sub-left : (s : SubBlock) (b p q r : List ℤ) {y u v : Job} → subReply (length b) s ≡ accepted

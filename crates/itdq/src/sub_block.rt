@@ -2,25 +2,39 @@
 // Differs from the Rust in: each component brings its own start; all tests of all flagged components are made first, and a refused call has
 // written nothing; a flagged component is a block job, not a call on the buffer's tail; offset and shifts are given, and shared.
 ghost use mathlib.Core.Path.{_≡_};
+ghost use mathlib.Core.Bool.{true};
 ghost use mathlib.Core.List.{[], _∷_};
 ghost use lib.ListN.{length};
 ghost use Rattle.order.specs.Jobs.{jobs};
 ghost use Rattle.evc.specs.Answers.{subReading};
-ghost use Rattle.evc.specs.Jobs.{blockJobs};
+ghost use Rattle.evc.specs.Jobs.{jobNumber, blockJobs};
 ghost use Rattle.evc.specs.SubBlocks.{given, subReply, subExit};
-use crate::job::evc_itdq_job;
+use crate::block::both_stages;
+use crate::block::scale_of;
 use evc::Job;
 use evc::SubAnswer;
 use evc::SubBlock;
 use refusals::chroma_job;
 use refusals::luma_job;
 
-// A component's job, where it is flagged.
+// A component's job, where it is flagged. Its tests have passed, so that they are not made again: the steps are those of `evc_itdq_job`.
 fn component(coef: &mut [i16], flag: bool, job: Job)
+    requires { ⌜ (flag ≡ true → jobNumber (length (now coef)) job ≡ 0) ⌝ }
     ensures { λ _. ⌜ now (coef .exit) ≡ jobs blockJobs (given flag (job ∷ [])) (now (coef .entry)) ⌝ }
 {
     if flag {
-        evc_itdq_job(&mut coef[..], job);
+        let by = scale_of(job.qp);
+        let start = job.start;
+        let end = start + (1usize << (job.logw + job.logh));
+        dquant::evc_dquant(
+            &mut coef[start..end],
+            job.logw,
+            job.logh,
+            by,
+            job.offset,
+            job.dqshift,
+        );
+        both_stages(&mut coef[start..end], job.logw, job.logh, job.itshift);
     }
 }
 

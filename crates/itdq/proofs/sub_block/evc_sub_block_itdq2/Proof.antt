@@ -1,6 +1,8 @@
 -- `itdq::sub_block::evc_sub_block_itdq2` meets its contract. Assumes nothing.
 use mathlib.Core.Path.{sym, _∙_}
-use Rattle.evc.proofs.SubBlocks.{sub-refused}
+use lib.ListN.{length}
+use Rattle.evc.specs.declared.SubBlock.{SubBlock}
+use Rattle.evc.proofs.SubBlocks.{AllPassed, all-passed, luma-accepted, chroma-accepted, sub-refused}
 use Rattle.refusals.proofs.Matches.{sub-done, sub-not-done}
 use Rattle.itdq.proofs.SubBlocks.{sub-left}
 use borrow.Author.Needs.{needs}
@@ -13,23 +15,36 @@ sub-block-requires c κs = search needs
 enum-told : tie.Need-enum-told
 enum-told c = search needs
 
+-- the call is accepted
+abbrev call : tie.After-enum-told → SubBlock
+call c = c .before .before .before .args .call
+
+passed : (c : tie.After-enum-told) → AllPassed (length (c .before .before .before .args .coef .now)) (call c)
+passed c = let t = c .before .before .sub-block in all-passed _ _ (sym (t .ensures) ∙ sub-done (t .result) (c .before .match .keys1))
+
 luma-job-requires : tie.Need-luma-job-requires
 luma-job-requires c κs = search needs
 
 component-requires : tie.Need-component-requires
-component-requires c κs = search needs
+component-requires c κs t =
+    let k = c .before .before in
+    rw (c .luma-job .ensures) (luma-accepted _ (call k) (call k .y) (passed k .y t))
 
 chroma-job-requires : tie.Need-chroma-job-requires
 chroma-job-requires c κs = search needs
 
 component-requires-2 : tie.Need-component-requires-2
-component-requires-2 c κs = search needs
+component-requires-2 c κs t =
+    let k = c .before .before .before .before .before .before in
+    rw (c .chroma-job .ensures, c .before .before .coef .given) (chroma-accepted _ (call k) (call k .u) (passed k .u t))
 
 chroma-job-requires-2 : tie.Need-chroma-job-requires-2
 chroma-job-requires-2 c κs = search needs
 
 component-requires-3 : tie.Need-component-requires-3
-component-requires-3 c κs = search needs
+component-requires-3 c κs t =
+    let k = c .before .before .before .before .before .before .before .before .before .before in
+    rw (c .chroma-job2 .ensures, c .before .before .coef2 .given, c .before .before .before .before .before .before .coef .given) (chroma-accepted _ (call k) (call k .v) (passed k .v t))
 
 enum-told-2 : tie.Need-enum-told-2
 enum-told-2 c = search needs
