@@ -1,7 +1,7 @@
 -- Lines of size 8 that stage two does together, cited by the contracts of src/eight.rt. Document 01, "The two stages". Assumes nothing.
 use mathlib.Core.Bool.{cond}
 use mathlib.Core.List.{List}
-use Prim.Native.Nat.{ℕ, _+_, _*_, _/_, _%_, _≤_, _<_}
+use Prim.Native.Nat.{ℕ, _+_, _*_, _/_, _%_, _≤_}
 use lib.Dec.{ltb}
 use lib.ListN.{length}
 use lib.IntN.{ℤ, _+ℤ_}
@@ -20,14 +20,8 @@ groupsOf l = (l + 7) / 8
 unfoldable pub quotientAt : ℕ → ℕ → List ℤ → ℕ → ℤ
 quotientAt l shift x place = clip32 (floorPow (product (tm 8) 8 l x (place / 8) (place % 8) +ℤ rounding shift) shift)
 
--- line j of the group that begins with line j0 of l lies within the input, and its numbers within z
-pub record Group (src z : List ℤ) (l j0 j : ℕ) : Type 0 where
-  pub among : j0 + j < l
-  pub src-room : 8 * l ≤ length src
-  pub z-room : j * 8 + 8 ≤ length z
-
--- so do the first m lines
-pub record Groups (src z : List ℤ) (l j0 m : ℕ) : Type 0 where
+-- lines j0 .. j0 + m - 1 of l lie within the input, and their numbers within z
+pub record Group (src z : List ℤ) (l j0 m : ℕ) : Type 0 where
   pub among : j0 + m ≤ l
   pub src-room : 8 * l ≤ length src
   pub z-room : 8 * m ≤ length z

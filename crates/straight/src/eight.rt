@@ -5,29 +5,21 @@ ghost use Prim.Native.Nat.{_+_, _*_, _≤_};
 ghost use Rattle.integers.specs.Lists.{written};
 ghost use Rattle.evc.specs.Table.{tm};
 ghost use Rattle.evc.specs.Stages.{stageTwoAt};
-ghost use Rattle.halving.specs.Lines.{Amount, Next, Rooms, Lined};
-ghost use Rattle.straight.specs.Groups.{Group, Groups, groupOf, groupsOf, quotientAt};
+ghost use Rattle.halving.specs.Lines.{Amount, Next, Rooms};
+ghost use Rattle.straight.specs.Groups.{Group, groupOf, groupsOf, quotientAt};
 use super::store::store_clipped;
 use super::store::store_quotients;
 use super::wide::line8;
 
-// Line j of the group that begins with line j0 of l.
-fn row(src: &[i32], z: &mut [i32], l: usize, j0: usize, j: usize, add: i64, shift: u8)
-    requires { ⌜ Amount add shift × Group (now src) (now z) l j0 j ⌝ }
-    ensures { λ _. ⌜ Lined (λ i. quotientAt l shift (now (src .entry)) (j0 * 8 + i)) (now (z .entry)) (now (z .exit)) 8 j ⌝ }
-{
-    let t = table::table();
-    let y = line8(&t, 512, src, l, j0 + j, add);
-    store_quotients(&y, z, 8, j, shift);
-}
-
-// The first m lines of the group.
+// The m lines from line j0 of l on.
 fn rows(src: &[i32], z: &mut [i32], l: usize, j0: usize, m: usize, add: i64, shift: u8)
-    requires { ⌜ Amount add shift × Groups (now src) (now z) l j0 m ⌝ }
+    requires { ⌜ Amount add shift × Group (now src) (now z) l j0 m ⌝ }
     ensures { λ _. ⌜ now (z .exit) ≡ written (8 * m) (λ i. quotientAt l shift (now (src .entry)) (j0 * 8 + i)) (now (z .entry)) ⌝ }
 {
     for j in 0..m {
-        row(src, z, l, j0, j, add, shift);
+        let t = table::table();
+        let y = line8(&t, 512, src, l, j0 + j, add);
+        store_quotients(&y, z, 8, j, shift);
     }
 }
 

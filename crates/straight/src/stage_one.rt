@@ -6,39 +6,23 @@ ghost use Prim.Native.Nat.{_*_, _^_, _≤_};
 ghost use Rattle.integers.specs.Lists.{written};
 ghost use Rattle.evc.specs.Table.{tm};
 ghost use Rattle.evc.specs.Stages.{stageOneAt};
-ghost use Rattle.halving.specs.Lines.{Room, Rooms, Lined};
+ghost use Rattle.halving.specs.Lines.{Rooms};
 ghost use Rattle.halving.specs.Own.{ownOne, doneOne};
 use super::narrow::line2;
 use super::narrow::line4;
 use super::narrow::line8;
 use super::store::store_i32;
 
-// Line j of l, and all lines, of each size.
-fn row2(src: &[i16], dst: &mut [i32], l: usize, j: usize)
-    requires { ⌜ Room (now src) (now dst) 2 l j ⌝ }
-    ensures { λ _. ⌜ Lined (stageOneAt (tm 2) 2 l (now (src .entry))) (now (dst .entry)) (now (dst .exit)) 2 j ⌝ }
-{
-    let t = table::table();
-    let y = line2(&t, 2048, src, l, j);
-    store_i32(&y, dst, 2, j);
-}
-
+// The l lines of each size.
 fn rows2(src: &[i16], dst: &mut [i32], l: usize)
     requires { ⌜ Rooms (now src) (now dst) 2 l ⌝ }
     ensures { λ _. ⌜ now (dst .exit) ≡ written (2 * l) (stageOneAt (tm 2) 2 l (now (src .entry))) (now (dst .entry)) ⌝ }
 {
     for j in 0..l {
-        row2(src, dst, l, j);
+        let t = table::table();
+        let y = line2(&t, 2048, src, l, j);
+        store_i32(&y, dst, 2, j);
     }
-}
-
-fn row4(src: &[i16], dst: &mut [i32], l: usize, j: usize)
-    requires { ⌜ Room (now src) (now dst) 4 l j ⌝ }
-    ensures { λ _. ⌜ Lined (stageOneAt (tm 4) 4 l (now (src .entry))) (now (dst .entry)) (now (dst .exit)) 4 j ⌝ }
-{
-    let t = table::table();
-    let y = line4(&t, 1024, src, l, j);
-    store_i32(&y, dst, 4, j);
 }
 
 fn rows4(src: &[i16], dst: &mut [i32], l: usize)
@@ -46,17 +30,10 @@ fn rows4(src: &[i16], dst: &mut [i32], l: usize)
     ensures { λ _. ⌜ now (dst .exit) ≡ written (4 * l) (stageOneAt (tm 4) 4 l (now (src .entry))) (now (dst .entry)) ⌝ }
 {
     for j in 0..l {
-        row4(src, dst, l, j);
+        let t = table::table();
+        let y = line4(&t, 1024, src, l, j);
+        store_i32(&y, dst, 4, j);
     }
-}
-
-fn row8(src: &[i16], dst: &mut [i32], l: usize, j: usize)
-    requires { ⌜ Room (now src) (now dst) 8 l j ⌝ }
-    ensures { λ _. ⌜ Lined (stageOneAt (tm 8) 8 l (now (src .entry))) (now (dst .entry)) (now (dst .exit)) 8 j ⌝ }
-{
-    let t = table::table();
-    let y = line8(&t, 512, src, l, j);
-    store_i32(&y, dst, 8, j);
 }
 
 fn rows8(src: &[i16], dst: &mut [i32], l: usize)
@@ -64,7 +41,9 @@ fn rows8(src: &[i16], dst: &mut [i32], l: usize)
     ensures { λ _. ⌜ now (dst .exit) ≡ written (8 * l) (stageOneAt (tm 8) 8 l (now (src .entry))) (now (dst .entry)) ⌝ }
 {
     for j in 0..l {
-        row8(src, dst, l, j);
+        let t = table::table();
+        let y = line8(&t, 512, src, l, j);
+        store_i32(&y, dst, 8, j);
     }
 }
 

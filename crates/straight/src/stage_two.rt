@@ -7,39 +7,23 @@ ghost use Rattle.integers.specs.Lists.{written};
 ghost use Rattle.evc.specs.Table.{tm};
 ghost use Rattle.evc.specs.Tests.{samplesOf};
 ghost use Rattle.evc.specs.Stages.{stageTwoAt};
-ghost use Rattle.halving.specs.Lines.{Amount, Room, Rooms, Lined};
+ghost use Rattle.halving.specs.Lines.{Amount, Rooms};
 ghost use Rattle.halving.specs.Own.{Call, ownTwo, doneTwo};
 use super::eight::rows8;
 use super::store::store_i16;
 use super::wide::line2;
 use super::wide::line4;
 
-// Line j of l, and all lines, of each size.
-fn row2(src: &[i32], dst: &mut [i16], l: usize, j: usize, add: i64, shift: u8)
-    requires { ⌜ Amount add shift × Room (now src) (now dst) 2 l j ⌝ }
-    ensures { λ _. ⌜ Lined (stageTwoAt (tm 2) 2 l shift (now (src .entry))) (now (dst .entry)) (now (dst .exit)) 2 j ⌝ }
-{
-    let t = table::table();
-    let y = line2(&t, 2048, src, l, j);
-    store_i16(&y, dst, 2, j, add, shift);
-}
-
+// The l lines of each size.
 fn rows2(src: &[i32], dst: &mut [i16], l: usize, add: i64, shift: u8)
     requires { ⌜ Amount add shift × Rooms (now src) (now dst) 2 l ⌝ }
     ensures { λ _. ⌜ now (dst .exit) ≡ written (2 * l) (stageTwoAt (tm 2) 2 l shift (now (src .entry))) (now (dst .entry)) ⌝ }
 {
     for j in 0..l {
-        row2(src, dst, l, j, add, shift);
+        let t = table::table();
+        let y = line2(&t, 2048, src, l, j);
+        store_i16(&y, dst, 2, j, add, shift);
     }
-}
-
-fn row4(src: &[i32], dst: &mut [i16], l: usize, j: usize, add: i64, shift: u8)
-    requires { ⌜ Amount add shift × Room (now src) (now dst) 4 l j ⌝ }
-    ensures { λ _. ⌜ Lined (stageTwoAt (tm 4) 4 l shift (now (src .entry))) (now (dst .entry)) (now (dst .exit)) 4 j ⌝ }
-{
-    let t = table::table();
-    let y = line4(&t, 1024, src, l, j);
-    store_i16(&y, dst, 4, j, add, shift);
 }
 
 fn rows4(src: &[i32], dst: &mut [i16], l: usize, add: i64, shift: u8)
@@ -47,7 +31,9 @@ fn rows4(src: &[i32], dst: &mut [i16], l: usize, add: i64, shift: u8)
     ensures { λ _. ⌜ now (dst .exit) ≡ written (4 * l) (stageTwoAt (tm 4) 4 l shift (now (src .entry))) (now (dst .entry)) ⌝ }
 {
     for j in 0..l {
-        row4(src, dst, l, j, add, shift);
+        let t = table::table();
+        let y = line4(&t, 1024, src, l, j);
+        store_i16(&y, dst, 4, j, add, shift);
     }
 }
 

@@ -18,21 +18,13 @@ pub(crate) fn store_i32(y: &[i32], dst: &mut [i32], n: usize, j: usize)
     }
 }
 
-// A sum of stage two, rounded, divided by 2^shift toward minus infinity, and clipped to 16 bits.
-fn rounded(v: i64, add: i64, shift: u8) -> i16
-    requires { ⌜ Amount add shift × (natAbs v ≤ 17592186044416) ⌝ }
-    ensures { λ r. ⌜ r ≡ shifted shift v ⌝ }
-{
-    integers::clip16((v + add) >> shift)
-}
-
-// Stage two, sizes 2 and 4.
+// Stage two, sizes 2 and 4: each sum rounded, divided by 2^shift toward minus infinity, and clipped to 16 bits.
 pub(crate) fn store_i16(y: &[i64], dst: &mut [i16], n: usize, j: usize, add: i64, shift: u8)
     requires { ⌜ (Amount add shift × Bounded (now y) n) × ((n ≤ length (now y)) × (j * n + n ≤ length (now dst))) ⌝ }
     ensures { λ _. ⌜ Next (now (dst .entry)) (now (dst .exit)) (j * n) n (λ k. shifted shift (getD (now (y .entry)) k (pos 0))) ⌝ }
 {
     for k in 0..n {
-        dst[j * n + k] = rounded(y[k], add, shift);
+        dst[j * n + k] = integers::clip16((y[k] + add) >> shift);
     }
 }
 
