@@ -12,8 +12,8 @@ use Rattle.integers.proofs.Bound.{within-sfits, within-mono}
 use Rattle.integers.proofs.Expr.{var, loc, Known, arg, env, fit, reads}
 use Rattle.halving.specs.Lines.{Gathered}
 use Rattle.halving.proofs.Lines.{place, gathered-none, gathered-more}
-use Rattle.halving.proofs.gather.gather_i32.Statement.{statement}
-use Rattle.halving.proofs.gather.gather_i32.Tie as tie
+use Rattle.itx.proofs.gather.gather_i32.Statement.{statement}
+use Rattle.itx.proofs.gather.gather_i32.Tie as tie
 
 abbrev Inv-loop : tie.InvT-loop
 Inv-loop src x₀ n l j k₀ x k = (k ≤ n) × Gathered x src n k l j

@@ -5,8 +5,8 @@ use native.Mathlib.Omega.{arith}
 use Rattle.halving.specs.Line.{rows, Part}
 use Rattle.halving.proofs.Bounds.{half-size}
 use Rattle.halving.proofs.Step.{none, all}
-use Rattle.halving.proofs.line.level.Statement.{statement}
-use Rattle.halving.proofs.line.level.Tie as tie
+use Rattle.itx.proofs.line.level.Statement.{statement}
+use Rattle.itx.proofs.line.level.Tie as tie
 
 abbrev Inv-loop : tie.InvT-loop
 Inv-loop t w x e₀ m q n₀ e n = (n ≤ m) × Part e (rows t w) q m n x

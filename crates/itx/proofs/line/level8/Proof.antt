@@ -2,8 +2,8 @@
 use mathlib.Core.Path.{sym, _∙_}
 use native.Mathlib.Omega.{arith}
 use Rattle.halving.proofs.Step.{none, all}
-use Rattle.halving.proofs.line.level8.Statement.{statement}
-use Rattle.halving.proofs.line.level8.Tie as tie
+use Rattle.itx.proofs.line.level8.Statement.{statement}
+use Rattle.itx.proofs.line.level8.Tie as tie
 
 step-requires : tie.Need-step-requires
 step-requires c κs = ((c .before .pre .0, omega arith), none (c .before .pre .1))

@@ -11,8 +11,8 @@ use Rattle.integers.proofs.Sum.{sum-none}
 use Rattle.integers.proofs.Expr.{var, add, Known, small, held, env, fit, Holds, holds, holds-lit, held-reads}
 use Rattle.halving.specs.Line.{rows, line, odd, Level}
 use Rattle.halving.proofs.Bounds.{term, odd-number, odd-step, odd-multiple, odd-within, half-size, column}
-use Rattle.halving.proofs.line.odd_sum.Statement.{statement}
-use Rattle.halving.proofs.line.odd_sum.Tie as tie
+use Rattle.itx.proofs.line.odd_sum.Statement.{statement}
+use Rattle.itx.proofs.line.odd_sum.Tie as tie
 
 abbrev Inv-loop : tie.InvT-loop
 Inv-loop t w x m q n sum₀ k₀ sum k = (k ≤ m) × Holds w64 (k * term) sum (odd (rows t w) q k n (line x))

@@ -13,8 +13,8 @@ use Rattle.integers.proofs.Expr.{var, add, loc, Known, small, env, fit, reads}
 use Rattle.halving.specs.Line.{line, Small, Term, Table}
 use Rattle.halving.proofs.Bounds.{term}
 use Rattle.halving.proofs.Step.{started}
-use Rattle.halving.proofs.line.start.Statement.{statement}
-use Rattle.halving.proofs.line.start.Tie as tie
+use Rattle.itx.proofs.line.start.Statement.{statement}
+use Rattle.itx.proofs.line.start.Tie as tie
 
 -- the two rows and columns of the table, and the two inputs
 module _ (s : tie.Start) where

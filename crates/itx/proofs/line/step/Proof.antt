@@ -12,8 +12,8 @@ use Rattle.integers.proofs.Expr.{var, add, sub, loc, Known, small, env, fit, re
 use Rattle.halving.specs.Line.{rows, line, dot, odd, Level}
 use Rattle.halving.proofs.Bounds.{half-size, odd-bound, even-bound}
 use Rattle.halving.proofs.Step.{place, more}
-use Rattle.halving.proofs.line.step.Statement.{statement}
-use Rattle.halving.proofs.line.step.Tie as tie
+use Rattle.itx.proofs.line.step.Statement.{statement}
+use Rattle.itx.proofs.line.step.Tie as tie
 
 -- a place of the level is one of the buffer
 inside : (s : tie.Start) (i : ℕ) → i < s .args .m + s .args .m → i < length (s .args .e .now)

@@ -8,8 +8,8 @@ use lib.IntN.{ℤ, pos, natAbs}
 use mir.Syntax.{w8, w64}
 use Rattle.integers.proofs.Expr.{var, mul, loc, Known, arg, small, env, within, reads, fit}
 use Rattle.halving.specs.Line.{line}
-use Rattle.halving.proofs.line.term.Statement.{statement}
-use Rattle.halving.proofs.line.term.Tie as tie
+use Rattle.itx.proofs.line.term.Statement.{statement}
+use Rattle.itx.proofs.line.term.Tie as tie
 
 -- the table's number and the input
 abbrev known : tie.After-result → ℕ → Known

@@ -2,8 +2,8 @@
 use borrow.Author.Needs.{needs}
 use native.Mathlib.Omega.{arith}
 use Rattle.halving.proofs.Instance.{own-table, own-sums}
-use Rattle.halving.proofs.own.own32.Statement.{statement}
-use Rattle.halving.proofs.own.own32.Tie as tie
+use Rattle.itx.proofs.own.own32.Statement.{statement}
+use Rattle.itx.proofs.own.own32.Tie as tie
 
 line32-requires : tie.Need-line32-requires
 line32-requires c κs = ((own-table 5 (omega arith) (c .before .args .t .now) (c .before .pre .0), c .before .pre .1 .0), c .before .pre .1 .1)

@@ -2,8 +2,8 @@
 use borrow.Author.Needs.{needs}
 use native.Mathlib.Omega.{arith}
 use Rattle.halving.proofs.Instance.{own-table, own-sums}
-use Rattle.halving.proofs.own.own4.Statement.{statement}
-use Rattle.halving.proofs.own.own4.Tie as tie
+use Rattle.itx.proofs.own.own4.Statement.{statement}
+use Rattle.itx.proofs.own.own4.Tie as tie
 
 table-requires : tie.Need-table-requires
 table-requires c κs = search needs

@@ -5,8 +5,8 @@ use Rattle.integers.specs.Z.{clip32}
 use Rattle.evc.specs.Table.{tm}
 use Rattle.evc.specs.Stages.{stageOneAt}
 use Rattle.halving.proofs.Lines.{inputs, lined}
-use Rattle.halving.proofs.stage_one.itx_pb16b0.Statement.{statement}
-use Rattle.halving.proofs.stage_one.itx_pb16b0.Tie as tie
+use Rattle.itx.proofs.stage_one.itx_pb16b0.Statement.{statement}
+use Rattle.itx.proofs.stage_one.itx_pb16b0.Tie as tie
 
 slice-aggregate-gather-i16 : tie.Need-slice-aggregate-gather-i16
 slice-aggregate-gather-i16 c = refl

@@ -8,8 +8,8 @@ use Rattle.integers.specs.Lists.{written}
 use Rattle.evc.specs.Table.{tm}
 use Rattle.evc.specs.Stages.{stageOneAt}
 use Rattle.halving.proofs.Lines.{room-of, lines-none, lines-more, lines-length, lines-all}
-use Rattle.halving.proofs.stage_one.long.Statement.{statement}
-use Rattle.halving.proofs.stage_one.long.Tie as tie
+use Rattle.itx.proofs.stage_one.long.Statement.{statement}
+use Rattle.itx.proofs.stage_one.long.Tie as tie
 
 abbrev Inv-loop : tie.InvT-loop
 Inv-loop src dst₀ log l t j₀ dst j = (j ≤ l) × (dst ≡ written (j * 2 ^ log) (stageOneAt (tm (2 ^ log)) (2 ^ log) l src) dst₀)

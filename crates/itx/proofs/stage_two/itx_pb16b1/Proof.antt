@@ -7,8 +7,8 @@ use Rattle.evc.specs.Stages.{stageTwoAt}
 use Rattle.halving.specs.Lines.{shifted}
 use Rattle.halving.proofs.Lines.{inputs, lined}
 use Rattle.halving.proofs.Instance.{own-bounded}
-use Rattle.halving.proofs.stage_two.itx_pb16b1.Statement.{statement}
-use Rattle.halving.proofs.stage_two.itx_pb16b1.Tie as tie
+use Rattle.itx.proofs.stage_two.itx_pb16b1.Statement.{statement}
+use Rattle.itx.proofs.stage_two.itx_pb16b1.Tie as tie
 
 slice-aggregate-gather-i32 : tie.Need-slice-aggregate-gather-i32
 slice-aggregate-gather-i32 c = refl

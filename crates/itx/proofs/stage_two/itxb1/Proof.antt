@@ -17,8 +17,8 @@ use Rattle.evc.proofs.Tests.{Unbroken, refused-at, accepted-end, inside-no}
 use Rattle.halving.specs.Lines.{Amount, Rooms}
 use Rattle.halving.proofs.Lines.{rooms, stage-end}
 use Rattle.halving.proofs.Calls.{below-one, above-six}
-use Rattle.halving.proofs.stage_two.itxb1.Statement.{statement}
-use Rattle.halving.proofs.stage_two.itxb1.Tie as tie
+use Rattle.itx.proofs.stage_two.itxb1.Statement.{statement}
+use Rattle.itx.proofs.stage_two.itxb1.Tie as tie
 
 -- the call's tests
 abbrev tests : tie.Start → List Test

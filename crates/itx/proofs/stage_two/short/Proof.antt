@@ -8,8 +8,8 @@ use Rattle.integers.specs.Lists.{written}
 use Rattle.evc.specs.Table.{tm}
 use Rattle.evc.specs.Stages.{stageTwoAt}
 use Rattle.halving.proofs.Lines.{room-of, lines-none, lines-more, lines-length, lines-all}
-use Rattle.halving.proofs.stage_two.short.Statement.{statement}
-use Rattle.halving.proofs.stage_two.short.Tie as tie
+use Rattle.itx.proofs.stage_two.short.Statement.{statement}
+use Rattle.itx.proofs.stage_two.short.Tie as tie
 
 abbrev Inv-loop : tie.InvT-loop
 Inv-loop src dst₀ log l add shift j₀ dst j = (j ≤ l) × (dst ≡ written (j * 2 ^ log) (stageTwoAt (tm (2 ^ log)) (2 ^ log) l shift src) dst₀)

@@ -7,8 +7,8 @@ use mir.Facts.{toZ-ofZ}
 use Rattle.evc.specs.Table.{tm}
 use Rattle.evc.specs.Stages.{stageTwoAt}
 use Rattle.halving.proofs.Lines.{room-at, lined-at}
-use Rattle.halving.proofs.stage_two.short_line.Statement.{statement}
-use Rattle.halving.proofs.stage_two.short_line.Tie as tie
+use Rattle.itx.proofs.stage_two.short_line.Statement.{statement}
+use Rattle.itx.proofs.stage_two.short_line.Tie as tie
 
 -- what the stage leaves, by the log of its size
 abbrev sums : tie.Start → ℕ → ℕ → ℤ

@@ -11,8 +11,8 @@ use Rattle.integers.specs.Z.{clip16}
 use Rattle.integers.proofs.Bound.{Within}
 use Rattle.integers.proofs.Expr.{var, add, shr, loc, Known, small, env, fit, reads}
 use Rattle.halving.proofs.Lines.{rounding-within}
-use Rattle.halving.proofs.store.rounded.Statement.{statement}
-use Rattle.halving.proofs.store.rounded.Tie as tie
+use Rattle.itx.proofs.store.rounded.Statement.{statement}
+use Rattle.itx.proofs.store.rounded.Tie as tie
 
 -- the sum and its rounding number
 abbrev known : tie.Start → ℕ → Known

@@ -9,8 +9,8 @@ use mir.Val.{toZ, bits}
 use mir.Facts.{toZ-pos}
 use Rattle.integers.proofs.Bits.{one-shl}
 use Rattle.evc.specs.Stages.{rounding}
-use Rattle.halving.proofs.store.rounding.Statement.{statement}
-use Rattle.halving.proofs.store.rounding.Tie as tie
+use Rattle.itx.proofs.store.rounding.Statement.{statement}
+use Rattle.itx.proofs.store.rounding.Tie as tie
 
 shifted-one : (s : ℕ) → 0 < s → s ≤ 31 → toZ w64 (1 * 2 ^ (s - 1) % 2 ^ bits w64) ≡ rounding s
 shifted-one zero h k = let z : ⊥ = omega arith in absurd z

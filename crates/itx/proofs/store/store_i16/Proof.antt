@@ -10,8 +10,8 @@ use mir.Val.{SFits, toZ, ofZ}
 use mir.Facts.{toZ-ofZ}
 use Rattle.halving.specs.Lines.{shifted, Next}
 use Rattle.halving.proofs.Lines.{next-none, next-more}
-use Rattle.halving.proofs.store.store_i16.Statement.{statement}
-use Rattle.halving.proofs.store.store_i16.Tie as tie
+use Rattle.itx.proofs.store.store_i16.Statement.{statement}
+use Rattle.itx.proofs.store.store_i16.Tie as tie
 
 abbrev Inv-loop : tie.InvT-loop
 Inv-loop e dst₀ n j add shift k₀ dst k = (k ≤ n) × Next dst₀ dst (j * n) k (λ i. shifted shift (getD e i (pos 0)))

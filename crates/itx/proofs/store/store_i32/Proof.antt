@@ -11,8 +11,8 @@ use mir.Facts.{toZ-ofZ}
 use Rattle.integers.specs.Z.{clip32}
 use Rattle.halving.specs.Lines.{Next}
 use Rattle.halving.proofs.Lines.{next-none, next-more}
-use Rattle.halving.proofs.store.store_i32.Statement.{statement}
-use Rattle.halving.proofs.store.store_i32.Tie as tie
+use Rattle.itx.proofs.store.store_i32.Statement.{statement}
+use Rattle.itx.proofs.store.store_i32.Tie as tie
 
 abbrev Inv-loop : tie.InvT-loop
 Inv-loop e dst₀ n j k₀ dst k = (k ≤ n) × Next dst₀ dst (j * n) k (λ i. clip32 (getD e i (pos 0)))
