@@ -79,7 +79,7 @@ pub extern "C" fn tv_ssd_16b(
     ensures { λ r. ⌜ Told (ssd16b (planeOf (now (org .entry)) width height stride) x y «log2_w» «log2_h» (now (cur .entry)) depth) (now (value .entry)) (now (value .exit)) r ⌝ }
 {
     tell_squared(
-        sad::evce_ssd_16b(org, width, height, stride, x, y, log2_w, log2_h, cur, depth),
+        ssd::evce_ssd_16b(org, width, height, stride, x, y, log2_w, log2_h, cur, depth),
         value,
     )
 }
@@ -104,7 +104,7 @@ pub extern "C" fn tv_ssd_16i(
     ensures { λ r. ⌜ Told (ssd16i (planeOf (now (one .entry)) width1 height1 stride1) (planeOf (now (two .entry)) width2 height2 stride2) x y «log2_w» «log2_h» depth) (now (value .entry)) (now (value .exit)) r ⌝ }
 {
     tell_squared(
-        sad::evce_ssd_16i(
+        ssd::evce_ssd_16i(
             one,
             width1,
             height1,
@@ -183,7 +183,7 @@ pub extern "C" fn tv_sad_bi_16b(
     ensures { λ r. ⌜ Told (sadBi16b (now (bi .entry)) (planeOf (now (reference .entry)) «ref_width» «ref_height» «ref_stride») «mv_x» «mv_y» w h depth) (now (value .entry)) (now (value .exit)) r ⌝ }
 {
     tell_distortion(
-        sad::evce_sad_bi_16b(
+        bi::evce_sad_bi_16b(
             bi,
             reference,
             ref_width,
@@ -232,5 +232,5 @@ pub extern "C" fn tv_sad_bi_16i(
 ) -> u8
     ensures { λ r. ⌜ Told (sadBi16i (now (bi .entry)) (now (pred .entry)) w h depth) (now (value .entry)) (now (value .exit)) r ⌝ }
 {
-    tell_distortion(sad::evce_sad_bi_16i(bi, pred, w, h, depth), value)
+    tell_distortion(bi::evce_sad_bi_16i(bi, pred, w, h, depth), value)
 }

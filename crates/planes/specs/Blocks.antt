@@ -3,6 +3,7 @@
 use Prim.Native.Nat.{ℕ, _+_, _*_, _≤_}
 use mathlib.Core.Bool.{false, cond}
 use mathlib.Core.List.{List}
+use lib.Dec.{ltb}
 use lib.IntN.{ℤ, pos}
 use lib.ListN.{getD}
 use Rattle.order.specs.Positions.{reach}
@@ -33,3 +34,7 @@ rest w h a b v = reply (first (sampleTests w h a b)) v
 -- the mark of a bi-prediction value: one that no depth holds where the value is too low
 unfoldable pub lowMark : ℤ → ℕ
 lowMark v = cond (tooLow v) 65535 0
+
+-- a number as 32 bits hold it: the largest that they hold, if it is above that
+unfoldable pub in32 : ℕ → ℕ
+in32 n = cond (ltb 4294967295 n) 4294967295 n

@@ -5,12 +5,12 @@
 ghost use mathlib.Core.Path.{_≡_};
 ghost use mathlib.Core.List.{[], _∷_};
 ghost use Prim.Native.Nat.{_-_, _/_, _^_};
-ghost use lib.Dec.{ltb, leb};
+ghost use lib.Dec.{leb};
 ghost use Rattle.evc.specs.Answers.{distortionReading};
 ghost use Rattle.evc.specs.declared.Refusal.the-variants as number;
 ghost use Rattle.evc.specs.Tests.{first, reply, _when_};
 ghost use Rattle.evc.specs.Calls.{depthTest};
-ghost use Rattle.planes.specs.Blocks.{lowMark};
+ghost use Rattle.planes.specs.Blocks.{lowMark, in32};
 use evc::Distortion;
 use evc::Refusal;
 
@@ -21,10 +21,10 @@ pub fn low_mark(v: i16) -> u16
     if v < -16384 { 65535 } else { 0 }
 }
 
-// The SAD of absolute differences that add up to sum, with the OR of their marks. A sum that 32 bits don't hold, which no two blocks have, is
-// SIZE: so the sum is given in 64 bits, in which the loops add rows, and compilers keep the shape of those.
+// The SAD of absolute differences that add up to sum, with the OR of their marks. It ends at the largest number of 32 bits, which no two blocks
+// reach: so the sum is given in 64 bits, in which the loops add rows, and compilers keep the shape of those.
 pub fn sad_answer(sum: u64, any: u16, depth: u8) -> Distortion
-    ensures { λ r. ⌜ distortionReading r ≡ reply (first (depthTest depth ∷ (number.Sample when leb (2 ^ depth) any) ∷ (number.Size when ltb 4294967295 sum) ∷ [])) (sum / 2 ^ (depth - 8)) ⌝ }
+    ensures { λ r. ⌜ distortionReading r ≡ reply (first (depthTest depth ∷ (number.Sample when leb (2 ^ depth) any) ∷ [])) (in32 (sum / 2 ^ (depth - 8))) ⌝ }
 {
     if crate::tests::wrong_depth(depth) {
         return Distortion::Refused(Refusal::Depth);
@@ -32,9 +32,10 @@ pub fn sad_answer(sum: u64, any: u16, depth: u8) -> Distortion
     if any >> depth != 0 {
         return Distortion::Refused(Refusal::Sample);
     }
-    if 4294967295 < sum {
-        return Distortion::Refused(Refusal::Size);
+    let sad = sum >> (depth - 8);
+    if 4294967295 < sad {
+        return Distortion::Value(4294967295);
     }
-    let sad = (sum >> (depth - 8)) as u32;
-    Distortion::Value(sad)
+    let value = sad as u32;
+    Distortion::Value(value)
 }

@@ -1,12 +1,11 @@
-// Two blocks, row by row: the totals of SAD and SSD before a caller divides them. A block is a start and a stride in its buffer, so a packed
-// block is one whose stride is its width. Document 01, "Distortion".
+// Two blocks, row by row. A block is a start and a stride in its buffer, so a packed block is one whose stride is its width. Document 01,
+// "Distortion".
 // Differs from the Rust in: the common widths are literals, for which compilers write straight vector code.
-ghost use Prim.Native.Nat.{_≤_};
 ghost use lib.ListN.{length};
-ghost use Rattle.planes.specs.Blocks.{TwoBlocks};
-ghost use Rattle.sad.specs.Totals.{BlocksTold, apart};
-ghost use Rattle.sad.specs.Near.{squaredLow};
-use crate::rows::Totals;
+ghost use Rattle.planes.specs.Blocks.{TwoBlocks, cell};
+ghost use Rattle.compare.specs.Totals.{BlocksTold, apart};
+use crate::rows::sad_row;
+use compare::Totals;
 
 fn sad_rows(
     a: &[u16],
@@ -19,16 +18,16 @@ fn sad_rows(
     h: usize,
 ) -> Totals
     requires { ⌜ TwoBlocks w h (length (now a)) «a_at» «a_stride» (length (now b)) «b_at» «b_stride» ⌝ }
-    ensures { λ r. ⌜ BlocksTold apart w h (now (a .entry)) «a_at» «a_stride» (now (b .entry)) «b_at» «b_stride» (r .sum) (r .any) ⌝ }
+    ensures { λ r. ⌜ BlocksTold apart w h (cell 0 (now (a .entry)) «a_at» «a_stride») (cell 0 (now (b .entry)) «b_at» «b_stride») (r .sum) (r .any) ⌝ }
 {
     let mut sum: u64 = 0;
     let mut any: u16 = 0;
     for j in 0..h {
-        let t = crate::rows::sad_row(
-            crate::rows::row(a, a_at, a_stride, j, w),
-            crate::rows::row(b, b_at, b_stride, j, w),
-            w,
-        );
+        let p = a_at + j * a_stride;
+        let q = b_at + j * b_stride;
+        let p_end = p + w;
+        let q_end = q + w;
+        let t = sad_row(&a[p..p_end], &b[q..q_end], w);
         sum = sum + t.sum;
         any = any | t.any;
     }
@@ -47,8 +46,13 @@ pub(crate) fn sad_block(
     h: usize,
 ) -> Totals
     requires { ⌜ TwoBlocks w h (length (now a)) «a_at» «a_stride» (length (now b)) «b_at» «b_stride» ⌝ }
-    ensures { λ r. ⌜ BlocksTold apart w h (now (a .entry)) «a_at» «a_stride» (now (b .entry)) «b_at» «b_stride» (r .sum) (r .any) ⌝ }
+    ensures { λ r. ⌜ BlocksTold apart w h (cell 0 (now (a .entry)) «a_at» «a_stride») (cell 0 (now (b .entry)) «b_at» «b_stride») (r .sum) (r .any) ⌝ }
 {
+    if w == 4 {
+        if h == 4 {
+            return sad_rows(a, a_at, a_stride, b, b_at, b_stride, 4, 4);
+        }
+    }
     match w {
         64 => sad_rows(a, a_at, a_stride, b, b_at, b_stride, 64, h),
         32 => sad_rows(a, a_at, a_stride, b, b_at, b_stride, 32, h),
@@ -56,61 +60,5 @@ pub(crate) fn sad_block(
         8 => sad_rows(a, a_at, a_stride, b, b_at, b_stride, 8, h),
         4 => sad_rows(a, a_at, a_stride, b, b_at, b_stride, 4, h),
         _ => sad_rows(a, a_at, a_stride, b, b_at, b_stride, w, h),
-    }
-}
-
-fn ssd_rows(
-    a: &[u16],
-    a_at: usize,
-    a_stride: usize,
-    b: &[u16],
-    b_at: usize,
-    b_stride: usize,
-    w: usize,
-    h: usize,
-    depth: u8,
-) -> Totals
-    requires { ⌜ TwoBlocks w h (length (now a)) «a_at» «a_stride» (length (now b)) «b_at» «b_stride» ⌝ }
-    requires { ⌜ (8 ≤ depth) × (depth ≤ 14) ⌝ }
-    ensures { λ r. ⌜ BlocksTold (squaredLow depth) w h (now (a .entry)) «a_at» «a_stride» (now (b .entry)) «b_at» «b_stride» (r .sum) (r .any) ⌝ }
-{
-    let mut sum: u64 = 0;
-    let mut any: u16 = 0;
-    for j in 0..h {
-        let t = crate::rows::ssd_row(
-            crate::rows::row(a, a_at, a_stride, j, w),
-            crate::rows::row(b, b_at, b_stride, j, w),
-            w,
-            depth,
-        );
-        sum = sum + t.sum;
-        any = any | t.any;
-    }
-    Totals { sum: sum, any: any }
-}
-
-// SSD: the squared differences, each divided by 2^(2 · (depth - 8)), added.
-pub(crate) fn ssd_block(
-    a: &[u16],
-    a_at: usize,
-    a_stride: usize,
-    b: &[u16],
-    b_at: usize,
-    b_stride: usize,
-    w: usize,
-    h: usize,
-    depth: u8,
-) -> Totals
-    requires { ⌜ TwoBlocks w h (length (now a)) «a_at» «a_stride» (length (now b)) «b_at» «b_stride» ⌝ }
-    requires { ⌜ (8 ≤ depth) × (depth ≤ 14) ⌝ }
-    ensures { λ r. ⌜ BlocksTold (squaredLow depth) w h (now (a .entry)) «a_at» «a_stride» (now (b .entry)) «b_at» «b_stride» (r .sum) (r .any) ⌝ }
-{
-    match w {
-        64 => ssd_rows(a, a_at, a_stride, b, b_at, b_stride, 64, h, depth),
-        32 => ssd_rows(a, a_at, a_stride, b, b_at, b_stride, 32, h, depth),
-        16 => ssd_rows(a, a_at, a_stride, b, b_at, b_stride, 16, h, depth),
-        8 => ssd_rows(a, a_at, a_stride, b, b_at, b_stride, 8, h, depth),
-        4 => ssd_rows(a, a_at, a_stride, b, b_at, b_stride, 4, h, depth),
-        _ => ssd_rows(a, a_at, a_stride, b, b_at, b_stride, w, h, depth),
     }
 }

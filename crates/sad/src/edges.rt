@@ -1,121 +1,73 @@
-// Blocks at positions that may be negative: each negative row or column reads as 0, sample by sample, into a packed block. Document 01,
-// "Distortion": where the Rust takes the larger of a position and 0.
-// Differs from the Rust in: positions are added in 32 bits, so that nothing wraps at 32767; the block is read once, before it is compared.
+// Two blocks, of which the second stands at a position that may be negative. Document 01, "Distortion".
+// Differs from the Rust in: where neither position is negative, the block is compared where it stands.
 ghost use mathlib.Core.Path.{_≡_};
-ghost use Prim.Native.Nat.{_+_, _*_, _^_, _<_, _≤_};
-ghost use mathlib.Core.Bool.{_||_};
-ghost use lib.IntN.{pos, natAbs, _+ℤ_};
-ghost use lib.Signed.{ltZ};
+ghost use Prim.Native.Nat.{_≤_};
+ghost use lib.Bits.{bitOr};
+ghost use lib.IntN.{pos, _+ℤ_};
 ghost use lib.ListN.{length, getD};
-ghost use Rattle.integers.specs.Lists.{tab, written};
-ghost use Rattle.evc.specs.Planes as plane;
-ghost use Rattle.sad.specs.Edges.{edgeAt, behind, Negative, RowEdges, EdgesIn, Plain};
+ghost use Rattle.evc.specs.Planes.{edge};
+ghost use Rattle.planes.specs.Blocks.{cell};
+ghost use Rattle.compare.specs.Totals.{Told, BlocksTold, apart};
+ghost use Rattle.compare.specs.Edges.{AtEdges, edgeCell};
+use crate::rows::sad_row;
+use compare::Totals;
 
-// How many positions from x on are negative.
-fn below(x: i16) -> usize
-    ensures { λ r. ⌜ (r ≡ behind x) × (r ≤ 32768) ⌝ }
+// A row, and one that is read at the columns from x on.
+fn edge_row(a: &[u16], row: &[u16], x: i16, w: usize) -> Totals
+    requires { ⌜ (length (now a) ≡ w) × (w ≤ 64) ⌝ }
+    ensures { λ r. ⌜ Told w (λ i. apart (getD (now (a .entry)) i 0) (getD (now (row .entry)) (edge (x +ℤ pos i)) 0)) (λ i. bitOr (getD (now (a .entry)) i 0) (getD (now (row .entry)) (edge (x +ℤ pos i)) 0)) (r .sum) (r .any) ⌝ }
 {
-    if x < 0 { (0 - (x as i32)) as usize } else { 0 }
+    let mut line = [0u16; 64];
+    compare::edge_row(row, x, &mut line[..w]);
+    sad_row(a, &line[..w], w)
 }
 
-// How many of w positions are negative, where `down` would be.
-fn at_most(down: usize, w: usize) -> usize
-    ensures { λ r. ⌜ Negative down w r ⌝ }
-{
-    if down < w { down } else { w }
-}
-
-// One row of the plane l, that starts at base: its first sample at each negative position, then those from the edge on. The two loops copy
-// runs of samples, which compilers turn into vector code.
-fn edge_row(l: &[u16], base: usize, x: i16, w: usize, out: &mut [u16])
-    requires { ⌜ RowEdges (length (now l)) base x w ⌝ }
-    requires { ⌜ length (now out) ≡ w ⌝ }
-    ensures { λ _. ⌜ now (out .exit) ≡ tab w (λ i. getD (now (l .entry)) (base + plane.edge (x +ℤ pos i)) 0) ⌝ }
-{
-    let down = below(x);
-    let up = planes::edge(x, 0);
-    let n = at_most(down, w);
-    for i in 0..n {
-        out[i] = l[base];
-    }
-    for i in n..w {
-        out[i] = l[base + up + i - down];
-    }
-}
-
-// The same, sample by sample: for a width that is a small literal, so that each column is found once for all rows.
-fn short_row(l: &[u16], base: usize, x: i16, w: usize, out: &mut [u16])
-    requires { ⌜ RowEdges (length (now l)) base x w ⌝ }
-    requires { ⌜ length (now out) ≡ w ⌝ }
-    ensures { λ _. ⌜ now (out .exit) ≡ tab w (λ i. getD (now (l .entry)) (base + plane.edge (x +ℤ pos i)) 0) ⌝ }
-{
-    for i in 0..w {
-        out[i] = l[base + planes::edge(x, i as u16)];
-    }
-}
-
-// The same, by the one that suits the width.
-fn read_row(l: &[u16], base: usize, x: i16, w: usize, out: &mut [u16])
-    requires { ⌜ RowEdges (length (now l)) base x w ⌝ }
-    requires { ⌜ length (now out) ≡ w ⌝ }
-    ensures { λ _. ⌜ now (out .exit) ≡ tab w (λ i. getD (now (l .entry)) (base + plane.edge (x +ℤ pos i)) 0) ⌝ }
-{
-    if w <= 16 {
-        short_row(l, base, x, w, &mut out[..]);
-    } else {
-        edge_row(l, base, x, w, &mut out[..]);
-    }
-}
-
-// The block, row after row, into the first places of out.
-fn edge_rows(l: &[u16], stride: usize, x: i16, y: i16, w: usize, h: usize, out: &mut [u16])
-    requires { ⌜ EdgesIn (length (now l)) stride x y w h ⌝ }
-    requires { ⌜ h * w ≤ length (now out) ⌝ }
-    ensures { λ _. ⌜ now (out .exit) ≡ written (h * w) (edgeAt (now (l .entry)) stride x y w) (now (out .entry)) ⌝ }
-{
-    for j in 0..h {
-        let base = planes::edge(y, j as u16) * stride;
-        let from = j * w;
-        let to = from + w;
-        read_row(l, base, x, w, &mut out[from..to]);
-    }
-}
-
-// The same, with small widths as literals.
-pub(crate) fn edge_block(
-    l: &[u16],
+// A block, and one at the edges: a negative row reads as row 0.
+fn edge_rows(
+    org: &[u16],
+    at: usize,
     stride: usize,
-    x: i16,
-    y: i16,
+    reference: &[u16],
+    ref_stride: usize,
+    mv_x: i16,
+    mv_y: i16,
     w: usize,
     h: usize,
-    out: &mut [u16],
-)
-    requires { ⌜ EdgesIn (length (now l)) stride x y w h ⌝ }
-    requires { ⌜ h * w ≤ length (now out) ⌝ }
-    ensures { λ _. ⌜ now (out .exit) ≡ written (h * w) (edgeAt (now (l .entry)) stride x y w) (now (out .entry)) ⌝ }
+) -> Totals
+    requires { ⌜ AtEdges w h (length (now org)) at stride (length (now reference)) «ref_stride» «mv_x» «mv_y» ⌝ }
+    ensures { λ r. ⌜ BlocksTold apart w h (cell 0 (now (org .entry)) at stride) (edgeCell (now (reference .entry)) «ref_stride» «mv_x» «mv_y») (r .sum) (r .any) ⌝ }
 {
-    match w {
-        16 => edge_rows(l, stride, x, y, 16, h, out),
-        8 => edge_rows(l, stride, x, y, 8, h, out),
-        4 => edge_rows(l, stride, x, y, 4, h, out),
-        2 => edge_rows(l, stride, x, y, 2, h, out),
-        _ => edge_rows(l, stride, x, y, w, h, out),
+    let mut sum: u64 = 0;
+    let mut any: u16 = 0;
+    for j in 0..h {
+        let from = at + j * stride;
+        let to = from + w;
+        let base = planes::edge(mv_y, j as u16) * ref_stride;
+        let t = edge_row(&org[from..to], &reference[base..], mv_x, w);
+        sum = sum + t.sum;
+        any = any | t.any;
     }
+    Totals { sum: sum, any: any }
 }
 
-// Either position is negative.
-pub(crate) fn negative(x: i16, y: i16) -> bool
-    ensures { λ r. ⌜ r ≡ ltZ x (pos 0) || ltZ y (pos 0) ⌝ }
+// The same; where neither position is negative, the block is compared where it stands.
+pub(crate) fn total(
+    org: &[u16],
+    at: usize,
+    stride: usize,
+    reference: &[u16],
+    ref_stride: usize,
+    mv_x: i16,
+    mv_y: i16,
+    w: usize,
+    h: usize,
+) -> Totals
+    requires { ⌜ AtEdges w h (length (now org)) at stride (length (now reference)) «ref_stride» «mv_x» «mv_y» ⌝ }
+    ensures { λ r. ⌜ BlocksTold apart w h (cell 0 (now (org .entry)) at stride) (edgeCell (now (reference .entry)) «ref_stride» «mv_x» «mv_y») (r .sum) (r .any) ⌝ }
 {
-    if x < 0 { true } else { y < 0 }
-}
-
-// Where a block stands in its plane, if neither position is negative.
-pub(crate) fn start(stride: usize, x: i16, y: i16) -> usize
-    requires { ⌜ Plain x y ⌝ }
-    requires { ⌜ natAbs y * stride + natAbs x < 2 ^ 64 ⌝ }
-    ensures { λ r. ⌜ r ≡ natAbs y * stride + natAbs x ⌝ }
-{
-    (y as usize) * stride + (x as usize)
+    if compare::negative(mv_x, mv_y) {
+        return edge_rows(org, at, stride, reference, ref_stride, mv_x, mv_y, w, h);
+    }
+    let from = planes::edge(mv_y, 0) * ref_stride + planes::edge(mv_x, 0);
+    crate::blocks::sad_block(org, at, stride, reference, from, ref_stride, w, h)
 }

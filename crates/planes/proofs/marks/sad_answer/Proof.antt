@@ -1,17 +1,15 @@
 -- `sad_answer` meets its contract. Assumes nothing.
 use mathlib.Core.Path.{_≡_, sym, _∙_}
 use mathlib.Core.Bool.{false}
-use Prim.Native.Nat.{ℕ, _/_, _^_, _≤_}
-use native.Mathlib.Nat.{div-le-self}
+use Prim.Native.Nat.{_-_, _/_, _^_, _≤_}
 use native.Mathlib.Omega.{arith}
 use lib.Dec.{leb}
 use borrow.Author.Needs.{needs}
 use borrow.Author.Tests.{lt-ltb, le-ltb, le-leb, lt-leb}
-use mir.Syntax.{w32}
-use mir.Val.{Fits}
 use Rattle.integers.proofs.Bits.{div-some, div-none}
 use Rattle.evc.specs.Tests.{outside}
 use Rattle.evc.proofs.Tests.{outside-no}
+use Rattle.planes.specs.Blocks.{in32}
 use Rattle.planes.proofs.marks.sad_answer.Statement.{statement}
 use Rattle.planes.proofs.marks.sad_answer.Tie as tie
 
@@ -40,28 +38,30 @@ returns-2 c =
 marked : (c : tie.Else2) → let a = c .before .before .before .args in leb (2 ^ a .depth) (a .any) ≡ false
 marked c = let a = c .before .before .before .args in lt-leb (2 ^ a .depth) (a .any) (div-none (a .any) (a .depth) (c .if2 .left))
 
-returns-3 : tie.Need-returns-3
-returns-3 c = let a = c .before .before .before .before .args in rw (deep (c .before .before), marked (c .before), lt-ltb 4294967295 (a .sum) (c .if3 .taken))
-
 sub-sad : tie.Need-sub-sad
-sub-sad c = omega (arith, allowed (c .before .before) .0)
+sub-sad c = omega (arith, allowed (c .before) .0)
 
 cast-sad : tie.Need-cast-sad
-cast-sad c = omega (arith, allowed (c .before .before) .1)
+cast-sad c = omega (arith, allowed (c .before) .1)
 
 shr-sad : tie.Need-shr-sad
-shr-sad c = omega (arith, allowed (c .before .before) .1)
+shr-sad c = omega (arith, allowed (c .before) .1)
 
--- whatever it is divided by: only the value tells
-quotient : (n d : ℕ) → n ≤ 4294967295 → Fits w32 (n / d)
-quotient n d h = omega (arith, div-le-self n d)
+returns-3 : tie.Need-returns-3
+unfolding in32
+returns-3 c =
+    let a = c .before .before .before .before .args in
+    rw (deep (c .before .before), marked (c .before), lt-ltb 4294967295 (a .sum / 2 ^ (a .depth - 8)) (c .if3 .taken))
 
-cast-sad-2 : tie.Need-cast-sad-2
-cast-sad-2 c = quotient _ _ (omega arith)
+cast-value : tie.Need-cast-value
+cast-value c = omega arith
 
 returns-4 : tie.Need-returns-4
-returns-4 c = let a = c .before .before .before .before .args in rw (deep (c .before .before), marked (c .before), le-ltb 4294967295 (a .sum) (c .if3 .left))
+unfolding in32
+returns-4 c =
+    let a = c .before .before .before .before .args in
+    rw (deep (c .before .before), marked (c .before), le-ltb 4294967295 (a .sum / 2 ^ (a .depth - 8)) (c .if3 .left))
 
 pub sad-answer-spec : {M : Type 1} → statement M
 sad-answer-spec =
-    tie.close (tie.spec wrong-depth-requires returns shr-if2 returns-2 returns-3 sub-sad cast-sad shr-sad cast-sad-2 returns-4)
+    tie.close (tie.spec wrong-depth-requires returns shr-if2 returns-2 sub-sad cast-sad shr-sad returns-3 cast-value returns-4)

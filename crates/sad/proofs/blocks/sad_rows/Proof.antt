@@ -2,14 +2,15 @@
 use Prim.Native.Nat.{ℕ, _+_, _-_, _*_, _≤_}
 use native.Mathlib.Omega.{arith}
 use lib.Bits.{bitOr}
+use lib.ListN.{length}
 use Rattle.integers.specs.Sum.{sumN}
 use Rattle.integers.specs.Or.{orN}
 use Rattle.planes.specs.Blocks.{cell}
 use Rattle.planes.proofs.Planes.{in-one, in-two}
-use Rattle.sad.specs.Totals.{Told, apart}
-use Rattle.sad.proofs.Samples.{apart-le}
-use Rattle.sad.proofs.Running.{Running, running-start, running-step, running-end, running-next}
-use Rattle.sad.proofs.Cells.{two-rows, told-rows, row-most}
+use Rattle.compare.specs.Totals.{Told, apart}
+use Rattle.compare.proofs.Samples.{apart-le}
+use Rattle.compare.proofs.Running.{Running, running-start, running-step, running-end, running-next}
+use Rattle.compare.proofs.Cells.{row-part, two-rows, told-rows, row-most}
 use Rattle.sad.proofs.blocks.sad_rows.Statement.{statement}
 use Rattle.sad.proofs.blocks.sad_rows.Tie as tie
 
@@ -24,17 +25,61 @@ abbrev μ-loop : tie.MeasureT-loop
 loop-holds : tie.Need-loop-holds Inv-loop μ-loop
 loop-holds c = running-start
 
-row-requires : tie.Need-row-requires Inv-loop μ-loop
-row-requires c κs = in-one (c .before .before .before .before .pre) (omega arith)
+-- where the rows end
+one : (c : tie.In-loop Inv-loop μ-loop) → let a = c .before .before .before .before .args in a .a-at + c .before .loop .j * a .a-stride + a .w ≤ length (a .a .now)
+one c = in-one (c .before .before .before .before .pre) (omega arith)
 
-row-requires-2 : tie.Need-row-requires-2 Inv-loop μ-loop
-row-requires-2 c κs = in-two (c .before .before .before .before .before .pre) (omega arith)
+two : (c : tie.In-loop Inv-loop μ-loop) → let a = c .before .before .before .before .args in a .b-at + c .before .loop .j * a .b-stride + a .w ≤ length (a .b .now)
+two c = in-two (c .before .before .before .before .pre) (omega arith)
+
+mul-p : tie.Need-mul-p Inv-loop μ-loop
+mul-p c = omega (arith, one c, c .before .before .before .before .good)
+
+add-p : tie.Need-add-p Inv-loop μ-loop
+add-p c = omega (arith, one c, c .before .before .before .before .good)
+
+mul-q : tie.Need-mul-q Inv-loop μ-loop
+mul-q c = omega (arith, two c, c .before .before .before .before .good)
+
+add-q : tie.Need-add-q Inv-loop μ-loop
+add-q c = omega (arith, two c, c .before .before .before .before .good)
+
+add-p-end : tie.Need-add-p-end Inv-loop μ-loop
+add-p-end c = omega (arith, one c, c .before .before .before .before .good)
+
+add-q-end : tie.Need-add-q-end Inv-loop μ-loop
+add-q-end c = omega (arith, two c, c .before .before .before .before .good)
+
+mul-sad-row : tie.Need-mul-sad-row Inv-loop μ-loop
+mul-sad-row c = omega (arith, one c, c .before .before .before .before .good)
+
+sub-sad-row : tie.Need-sub-sad-row Inv-loop μ-loop
+sub-sad-row c = omega arith
+
+part-sad-row-start : tie.Need-part-sad-row-start Inv-loop μ-loop
+part-sad-row-start c = omega arith
+
+part-sad-row-end : tie.Need-part-sad-row-end Inv-loop μ-loop
+part-sad-row-end c = one c
+
+mul-sad-row-2 : tie.Need-mul-sad-row-2 Inv-loop μ-loop
+mul-sad-row-2 c = omega (arith, two (c .before), c .before .before .before .before .before .good)
+
+sub-sad-row-2 : tie.Need-sub-sad-row-2 Inv-loop μ-loop
+sub-sad-row-2 c = omega arith
+
+part-sad-row-start-2 : tie.Need-part-sad-row-start-2 Inv-loop μ-loop
+part-sad-row-start-2 c = omega arith
+
+part-sad-row-end-2 : tie.Need-part-sad-row-end-2 Inv-loop μ-loop
+part-sad-row-end-2 c = two (c .before)
 
 sad-row-requires : tie.Need-sad-row-requires Inv-loop μ-loop
 sad-row-requires c κs =
-    let a = c .before .before .before .before .before .before .args in
-    two-rows (a .w) (a .h) (a .a .now) (a .a-at) (a .a-stride) (a .b .now) (a .b-at) (a .b-stride) (c .before .before .before .before .before .before .pre)
-    (c .before .before .before .loop .j) (omega arith) (c .before .row .result .now) (c .row2 .result .now) (c .before .row .ensures) (c .row2 .ensures)
+    let s = c .before .before .before .before .before .before in
+    let a = s .args in
+    two-rows (a .w) (a .h) (a .a .now) (a .a-at) (a .a-stride) (a .b .now) (a .b-at) (a .b-stride) (s .pre) (c .before .before .before .loop .j) (omega arith) _ _
+    (row-part (a .a .now) (a .a-at) (a .a-stride) (c .before .before .before .loop .j) (a .w)) (row-part (a .b .now) (a .b-at) (a .b-stride) (c .before .before .before .loop .j) (a .w))
 
 -- what the rows told, said of the blocks
 told :
@@ -46,8 +91,9 @@ told :
     (c .sad-row .result .sum) (c .sad-row .result .any)
 told c =
     let a = c .before .before .before .before .before .before .before .args in
-    told-rows apart bitOr 0 0 (a .a .now) (a .a-at) (a .a-stride) (a .b .now) (a .b-at) (a .b-stride) (c .before .before .before .before .loop .j) (a .w)
-    (c .before .before .row .result .now) (c .before .row2 .result .now) (c .before .before .row .ensures) (c .before .row2 .ensures) (c .sad-row .ensures)
+    told-rows apart bitOr 0 0 (a .a .now) (a .a-at) (a .a-stride) (a .b .now) (a .b-at) (a .b-stride) (c .before .before .before .before .loop .j) (a .w) _ _
+    (row-part (a .a .now) (a .a-at) (a .a-stride) (c .before .before .before .before .loop .j) (a .w)) (row-part (a .b .now) (a .b-at) (a .b-stride) (c .before .before .before .before .loop .j) (a .w))
+    (c .sad-row .ensures)
 
 -- what a row adds at most
 most :
@@ -88,8 +134,20 @@ sad-rows-spec =
     Inv-loop
     μ-loop
     loop-holds
-    row-requires
-    row-requires-2
+    mul-p
+    add-p
+    mul-q
+    add-q
+    add-p-end
+    add-q-end
+    mul-sad-row
+    sub-sad-row
+    part-sad-row-start
+    part-sad-row-end
+    mul-sad-row-2
+    sub-sad-row-2
+    part-sad-row-start-2
+    part-sad-row-end-2
     sad-row-requires
     add-sum
     add-j

@@ -1,106 +1,150 @@
 -- `edge_rows` meets its contract. Assumes nothing.
-use mathlib.Core.Path.{_≡_, sym, ap, ap₂, _∙_}
-use Prim.Native.Nat.{ℕ, _+_, _*_, _-_, _<_, _≤_}
+use mathlib.Core.Path.{_≡_, ap, ap₂, _∙_}
+use Prim.Native.Nat.{ℕ, _+_, _-_, _*_, _≤_, _<_}
+use native.Mathlib.Nat.{le-trans}
 use native.Mathlib.Omega.{arith}
+use lib.Bits.{bitOr}
 use lib.IntN.{ℤ, pos, _+ℤ_}
-use lib.ListN.{length, getD}
+use lib.ListN.{length}
 use mir.Syntax.{w16}
 use mir.Val.{toZ, ofZ}
 use mir.Facts.{toZ-ofZ}
-use Rattle.integers.specs.Lists.{tab, written}
-use Rattle.integers.proofs.Written.{tab-ext, grid-at}
-use Rattle.integers.proofs.Grid.{Wrote, wrote-start, wrote-row, wrote-end, wrote-long, row-room, row-long}
+use Rattle.integers.specs.Sum.{sumN}
+use Rattle.integers.specs.Or.{orN}
 use Rattle.evc.specs.Planes.{edge}
-use Rattle.sad.specs.Edges.{edgeCell, edgeAt}
+use Rattle.planes.specs.Blocks.{cell}
+use Rattle.planes.proofs.Planes.{row-in}
+use Rattle.compare.specs.Totals.{Told, BlocksTold, apart}
+use Rattle.compare.specs.Edges.{edgeCell}
+use Rattle.compare.proofs.Samples.{apart-le}
+use Rattle.compare.proofs.Running.{Running, running-start, running-step, running-end, running-next}
+use Rattle.compare.proofs.Cells.{part-length, part-at, told-ext, row-most}
+use Rattle.compare.proofs.AtEdges.{edge-at, of-bits}
 use Rattle.sad.proofs.edges.edge_rows.Statement.{statement}
 use Rattle.sad.proofs.edges.edge_rows.Tie as tie
 
 abbrev Inv-loop : tie.InvT-loop
-Inv-loop l stride x y w h out₀ j₀ out j = Wrote w h (edgeAt l stride (toZ w16 x) (toZ w16 y) w) out₀ out j
+Inv-loop org at stride reference ref-stride mv-x mv-y w h sum₀ any₀ j₀ sum any j =
+    Running h (λ j. sumN w (λ i. apart (cell 0 org at stride j i) (edgeCell reference ref-stride (toZ w16 mv-x) (toZ w16 mv-y) j i)))
+    (λ j. orN w (λ i. bitOr (cell 0 org at stride j i) (edgeCell reference ref-stride (toZ w16 mv-x) (toZ w16 mv-y) j i))) sum any j
 
 abbrev μ-loop : tie.MeasureT-loop
-μ-loop l stride x y w h out₀ j₀ out j = h - j
+μ-loop org at stride reference ref-stride mv-x mv-y w h sum₀ any₀ j₀ sum any j = h - j
 
 loop-holds : tie.Need-loop-holds Inv-loop μ-loop
-loop-holds c = wrote-start (c .before .before .pre .1)
+loop-holds c = running-start
+
+-- where row j of the first block ends
+one : (c : tie.In-loop Inv-loop μ-loop) → let a = c .before .before .before .before .args in a .at + c .before .loop .j * a .stride + a .w ≤ length (a .org .now)
+one c =
+    let s = c .before .before .before .before in
+    le-trans (row-in (s .args .at) (s .args .stride) (s .args .w) (s .args .h) (c .before .loop .j) (omega arith)) (s .pre .one)
+
+mul-from : tie.Need-mul-from Inv-loop μ-loop
+mul-from c = omega (arith, one c, c .before .before .before .before .good)
+
+add-from : tie.Need-add-from Inv-loop μ-loop
+add-from c = omega (arith, one c, c .before .before .before .before .good)
+
+add-to : tie.Need-add-to Inv-loop μ-loop
+add-to c = omega (arith, one c, c .before .before .before .before .good)
 
 cast-edge : tie.Need-cast-edge Inv-loop μ-loop
-cast-edge c = omega (arith, c .before .before .before .before .pre .0 .low)
+cast-edge c = omega (arith, c .before .before .before .before .pre .two .low)
 
 edge-requires : tie.Need-edge-requires Inv-loop μ-loop
 edge-requires c κs = tt
 
--- row j has room in the output
-room :
-    (c : tie.After-edge Inv-loop μ-loop) →
-    let w = c .before .before .before .before .before .args .w in c .before .before .loop .j * w + w ≤ length (c .before .before .loop .out)
-room c = row-room (c .before .before .loop .inv) (c .before .loop-test .taken)
-
--- where row j of the block starts in the plane, and that its columns read inside
+-- where row j of the second starts, and that it starts inside the plane
 starts :
     (c : tie.After-edge Inv-loop μ-loop) →
-    let s = c .before .before .before .before .before in c .edge .result ≡ edge (s .args .y +ℤ pos (c .before .before .loop .j))
+    let s = c .before .before .before .before .before in c .edge .result ≡ edge (s .args .mv-y +ℤ pos (c .before .before .loop .j))
 starts c =
     let s = c .before .before .before .before .before in
-    c .edge .ensures ∙ ap (λ (z : ℤ). edge (z +ℤ pos (c .before .before .loop .j))) (toZ-ofZ (s .fits .y))
+    c .edge .ensures ∙ ap (λ (z : ℤ). edge (z +ℤ pos (c .before .before .loop .j))) (toZ-ofZ (s .fits .mv-y))
 
-columns :
-    (c : tie.After-edge Inv-loop μ-loop) (i : ℕ) →
-    let a = c .before .before .before .before .before .args in i < a .w → c .edge .result * a .stride + edge (toZ w16 (ofZ w16 (a .x)) +ℤ pos i) < length (a .l .now)
-columns c i p =
+inside : (c : tie.After-edge Inv-loop μ-loop) → let a = c .before .before .before .before .before .args in c .edge .result * a .ref-stride < length (a .reference .now)
+inside c =
     let s = c .before .before .before .before .before in
-    let e = ap (λ (n : ℕ). n * s .args .stride) (starts c) in
-    let f = ap (λ (z : ℤ). edge (z +ℤ pos i)) (toZ-ofZ (s .fits .x)) in
-    omega (arith, e, f, s .pre .0 .reads (c .before .before .loop .j) i (c .before .loop-test .taken) p)
+    let e = ap (λ (n : ℕ). n * s .args .ref-stride) (starts c) in
+    omega (arith, e, s .pre .two .reads (c .before .before .loop .j) 0 (c .before .loop-test .taken) (s .pre .two .wide))
 
 mul-base : tie.Need-mul-base Inv-loop μ-loop
-mul-base c =
-    let s = c .before .before .before .before .before in omega (arith, columns c 0 (s .pre .0 .wide), s .good)
+mul-base c = omega (arith, inside c, c .before .before .before .before .before .good)
 
-mul-from : tie.Need-mul-from Inv-loop μ-loop
-mul-from c =
-    let s = c .before .before .before .before .before in omega (arith, room c, wrote-long (c .before .before .loop .inv), s .good)
+mul-edge-row : tie.Need-mul-edge-row Inv-loop μ-loop
+mul-edge-row c = omega (arith, one (c .before), c .before .before .before .before .before .good)
 
-add-to : tie.Need-add-to Inv-loop μ-loop
-add-to c =
-    let s = c .before .before .before .before .before in omega (arith, room c, wrote-long (c .before .before .loop .inv), s .good)
+sub-edge-row : tie.Need-sub-edge-row Inv-loop μ-loop
+sub-edge-row c = omega arith
 
-mul-read-row : tie.Need-mul-read-row Inv-loop μ-loop
-mul-read-row c =
-    let s = c .before .before .before .before .before in omega (arith, room c, wrote-long (c .before .before .loop .inv), s .good)
+part-edge-row-start : tie.Need-part-edge-row-start Inv-loop μ-loop
+part-edge-row-start c = omega arith
 
-sub-read-row : tie.Need-sub-read-row Inv-loop μ-loop
-sub-read-row c = omega arith
+part-edge-row-end : tie.Need-part-edge-row-end Inv-loop μ-loop
+part-edge-row-end c = one (c .before)
 
-part-read-row-start : tie.Need-part-read-row-start Inv-loop μ-loop
-part-read-row-start c = omega arith
+mul-edge-row-2 : tie.Need-mul-edge-row-2 Inv-loop μ-loop
+mul-edge-row-2 c = omega (arith, inside (c .before), c .before .before .before .before .before .before .good)
 
-part-read-row-end : tie.Need-part-read-row-end Inv-loop μ-loop
-part-read-row-end c = room c
+sub-edge-row-2 : tie.Need-sub-edge-row-2 Inv-loop μ-loop
+sub-edge-row-2 c = omega (arith, inside (c .before))
 
-read-row-requires : tie.Need-read-row-requires Inv-loop μ-loop
-read-row-requires c κs =
-    let s = c .before .before .before .before .before .before in
-    (record { narrow = s .pre .0 .narrow; reads = columns (c .before) }, row-long (c .before .before .before .loop .inv) (c .before .before .loop-test .taken))
+part-edge-row-start-2 : tie.Need-part-edge-row-start-2 Inv-loop μ-loop
+part-edge-row-start-2 c = omega (arith, inside (c .before))
 
--- what the row reads, by its places in the output
-placed :
-    (c : tie.After-read-row Inv-loop μ-loop) →
-    let a = c .before .before .before .before .before .before .before .args in
-    let j = c .before .before .before .before .loop .j in
-    c .read-row .last .1 .1 .1 .1 .0 ≡ tab (a .w) (λ i. edgeAt (a .l .now) (a .stride) (toZ w16 (ofZ w16 (a .x))) (toZ w16 (ofZ w16 (a .y))) (a .w) (j * a .w + i))
-unfolding edgeAt edgeCell
-placed c =
-    let a = c .before .before .before .before .before .before .before .args in
-    let j = c .before .before .before .before .loop .j in
-    let x = toZ w16 (ofZ w16 (a .x)) in
-    let y = toZ w16 (ofZ w16 (a .y)) in
-    let base = c .before .before .edge .result * a .stride in
-    c .read-row .ensures
-    ∙ tab-ext (a .w) (λ i. getD (a .l .now) (base + edge (x +ℤ pos i)) 0) (λ i. edgeAt (a .l .now) (a .stride) x y (a .w) (j * a .w + i))
-    (λ i p.
-    ap (λ (n : ℕ). getD (a .l .now) (n * a .stride + edge (x +ℤ pos i)) 0) (c .before .before .edge .ensures)
-    ∙ sym (grid-at (edgeCell (a .l .now) (a .stride) x y) j i (a .w) p))
+part-edge-row-end-2 : tie.Need-part-edge-row-end-2 Inv-loop μ-loop
+part-edge-row-end-2 c = omega arith
+
+edge-row-requires : tie.Need-edge-row-requires Inv-loop μ-loop
+edge-row-requires c κs =
+    let s = c .before .before .before .before .before .before .before in
+    let a = s .args in
+    (part-length (a .org .now) (a .at) (a .stride) (c .before .before .before .before .loop .j) (a .w) (one (c .before .before .before)), s .pre .two .narrow)
+
+-- what the rows told, said of the blocks
+told :
+    (c : tie.After-edge-row Inv-loop μ-loop) →
+    let a = c .before .before .before .before .before .before .before .before .args in
+    let j = c .before .before .before .before .before .loop .j in
+    let x = toZ w16 (ofZ w16 (a .mv-x)) in
+    let y = toZ w16 (ofZ w16 (a .mv-y)) in
+    Told (a .w) (λ i. apart (cell 0 (a .org .now) (a .at) (a .stride) j i) (edgeCell (a .reference .now) (a .ref-stride) x y j i))
+    (λ i. bitOr (cell 0 (a .org .now) (a .at) (a .stride) j i) (edgeCell (a .reference .now) (a .ref-stride) x y j i)) (c .edge-row .result .sum)
+    (c .edge-row .result .any)
+told c =
+    let a = c .before .before .before .before .before .before .before .before .args in
+    let j = c .before .before .before .before .before .loop .j in
+    let x = toZ w16 (ofZ w16 (a .mv-x)) in
+    let y = toZ w16 (ofZ w16 (a .mv-y)) in
+    let e = ap (λ (n : ℕ). n * a .ref-stride) (c .before .before .before .edge .ensures) in
+    told-ext (λ i. apart (cell 0 (a .org .now) (a .at) (a .stride) j i) (edgeCell (a .reference .now) (a .ref-stride) x y j i))
+    (λ i. bitOr (cell 0 (a .org .now) (a .at) (a .stride) j i) (edgeCell (a .reference .now) (a .ref-stride) x y j i)) (c .edge-row .ensures)
+    (λ i p. ap₂ apart (part-at (a .org .now) (a .at) (a .stride) j (a .w) 0 i p) (edge-at (a .reference .now) (a .ref-stride) x y _ j i e))
+    (λ i p. ap₂ bitOr (part-at (a .org .now) (a .at) (a .stride) j (a .w) 0 i p) (edge-at (a .reference .now) (a .ref-stride) x y _ j i e))
+
+-- what a row adds at most
+most :
+    (c : tie.After-edge-row Inv-loop μ-loop) (j : ℕ) →
+    let a = c .before .before .before .before .before .before .before .before .args in
+    let x = toZ w16 (ofZ w16 (a .mv-x)) in
+    let y = toZ w16 (ofZ w16 (a .mv-y)) in
+    sumN (a .w) (λ i. apart (cell 0 (a .org .now) (a .at) (a .stride) j i) (edgeCell (a .reference .now) (a .ref-stride) x y j i)) ≤ 4194240
+unfolding cell edgeCell
+most c j =
+    let s = c .before .before .before .before .before .before .before .before in
+    let a = s .args in
+    let x = toZ w16 (ofZ w16 (a .mv-x)) in
+    let y = toZ w16 (ofZ w16 (a .mv-y)) in
+    row-most (a .w) 65535 (λ i. apart (cell 0 (a .org .now) (a .at) (a .stride) j i) (edgeCell (a .reference .now) (a .ref-stride) x y j i)) (s .pre .two .narrow)
+    (λ i.
+    apart-le (cell 0 (a .org .now) (a .at) (a .stride) j i) (edgeCell (a .reference .now) (a .ref-stride) x y j i)
+    (omega (arith, c .before .before .before .before .before .before .before .shared-slice-known .given (a .at + j * a .stride + i)))
+    (omega (arith, c .before .before .before .before .before .before .shared-slice-known2 .given (edge (y +ℤ pos j) * a .ref-stride + edge (x +ℤ pos i)))))
+
+add-sum : tie.Need-add-sum Inv-loop μ-loop
+add-sum c =
+    omega (arith, running-next 4194240 (c .before .before .before .before .before .before .loop .inv) (omega arith) (told (c .before) .total) (λ j h. most (c .before) j))
 
 add-j : tie.Need-add-j Inv-loop μ-loop
 add-j c = omega arith
@@ -110,18 +154,14 @@ loop-less c = omega arith
 
 loop-again : tie.Need-loop-again Inv-loop μ-loop
 loop-again c =
-    let t = c .before .before .before .before .before in
-    wrote-row (t .before .loop .inv) (t .loop-test .taken) (c .before .before .read-row .last .1 .1 .1 .1 .0) (placed (c .before .before))
-
-same-length : tie.Need-same-length Inv-loop μ-loop
-same-length c = wrote-long (c .before .loop .inv)
+    running-step (c .before .before .before .before .before .before .before .loop .inv) (omega arith) (told (c .before .before) .total) (told (c .before .before) .marks)
 
 returns : tie.Need-returns Inv-loop μ-loop
 returns c =
     let s = c .before .before .before .before in
     let a = s .args in
-    wrote-end (c .before .loop .inv) (c .loop-test .left)
-    ∙ ap₂ (λ (x y : ℤ). written (a .h * a .w) (edgeAt (a .l .now) (a .stride) x y (a .w)) (a .out .now)) (toZ-ofZ (s .fits .x)) (toZ-ofZ (s .fits .y))
+    of-bits (λ x y. BlocksTold apart (a .w) (a .h) (cell 0 (a .org .now) (a .at) (a .stride)) (edgeCell (a .reference .now) (a .ref-stride) x y) (c .before .loop .sum) (c .before .loop .any))
+    (s .fits .mv-x) (s .fits .mv-y) (running-end (c .before .loop .inv) (omega arith))
 
 pub edge-rows-spec : {M : Type 1} → statement M
 edge-rows-spec =
@@ -130,18 +170,23 @@ edge-rows-spec =
     Inv-loop
     μ-loop
     loop-holds
+    mul-from
+    add-from
+    add-to
     cast-edge
     edge-requires
     mul-base
-    mul-from
-    add-to
-    mul-read-row
-    sub-read-row
-    part-read-row-start
-    part-read-row-end
-    read-row-requires
+    mul-edge-row
+    sub-edge-row
+    part-edge-row-start
+    part-edge-row-end
+    mul-edge-row-2
+    sub-edge-row-2
+    part-edge-row-start-2
+    part-edge-row-end-2
+    edge-row-requires
+    add-sum
     add-j
     loop-less
     loop-again
-    same-length
     returns)

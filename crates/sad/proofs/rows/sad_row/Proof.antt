@@ -4,10 +4,10 @@ use native.Mathlib.Omega.{arith}
 use mathlib.Core.Path.{refl}
 use lib.Bits.{bitOr}
 use lib.ListN.{getD}
-use Rattle.sad.specs.Totals.{apart}
-use Rattle.sad.proofs.Samples.{apart-le}
-use Rattle.sad.proofs.Running.{Running, running-start, running-step, running-end, running-next}
-use Rattle.sad.proofs.Cells.{told-most}
+use Rattle.compare.specs.Totals.{apart}
+use Rattle.compare.proofs.Samples.{apart-le}
+use Rattle.compare.proofs.Running.{Running, running-start, running-step, running-end, running-next}
+use Rattle.compare.proofs.Cells.{told-most}
 use Rattle.sad.proofs.rows.sad_row.Statement.{statement}
 use Rattle.sad.proofs.rows.sad_row.Tie as tie
 
@@ -32,11 +32,8 @@ mul-q c = omega arith
 shared-slice-read-q : tie.Need-shared-slice-read-q Inv-loop μ-loop
 shared-slice-read-q c = omega arith
 
-distance-requires : tie.Need-distance-requires Inv-loop μ-loop
-distance-requires c κs = tt
-
-cast-sum : tie.Need-cast-sum Inv-loop μ-loop
-cast-sum c = omega (arith, c .distance .ok)
+gap-requires : tie.Need-gap-requires Inv-loop μ-loop
+gap-requires c κs = tt
 
 -- no summand is above 65535, before the loop and in it
 most :
@@ -48,7 +45,7 @@ most c i =
 
 add-sum : tie.Need-add-sum Inv-loop μ-loop
 add-sum c =
-    omega (arith, running-next 65535 (c .before .before .before .before .loop .inv) (omega arith) (c .distance .ensures) (λ i h. most (c .before .before .before .before .before) i))
+    omega (arith, running-next 65535 (c .before .before .before .before .loop .inv) (omega arith) (c .gap .ensures) (λ i h. most (c .before .before .before .before .before) i))
 
 add-i : tie.Need-add-i Inv-loop μ-loop
 add-i c = omega arith
@@ -57,7 +54,7 @@ loop-less : tie.Need-loop-less Inv-loop μ-loop
 loop-less c = omega arith
 
 loop-again : tie.Need-loop-again Inv-loop μ-loop
-loop-again c = running-step (c .before .before .before .before .loop .inv) (omega arith) (c .distance .ensures) refl
+loop-again c = running-step (c .before .before .before .before .loop .inv) (omega arith) (c .gap .ensures) refl
 
 cast-all : tie.Need-cast-all Inv-loop μ-loop
 cast-all c =
@@ -77,8 +74,7 @@ sad-row-spec =
     shared-slice-read-p
     mul-q
     shared-slice-read-q
-    distance-requires
-    cast-sum
+    gap-requires
     add-sum
     add-i
     loop-less

@@ -1,22 +1,24 @@
 -- `evce_sad_16b` meets its contract: each refusal is the first broken test, and what is left is read alike. Assumes nothing.
 use mathlib.Core.Path.{_≡_, refl, sym, ap, _∙_}
 use mathlib.Core.Bool.{false, _||_}
-use Prim.Native.Nat.{ℕ, _+_, _*_, _-_, _/_, _^_}
+use Prim.Native.Nat.{ℕ, _+_, _*_, _-_, _/_, _^_, _≤_}
 use native.Mathlib.Omega.{arith}
 use borrow.Author.Needs.{needs}
+use lib.IntN.{pos, _+ℤ_}
 use lib.ListN.{length}
 use Rattle.order.proofs.Tests.{neither-left, neither-right}
-use Rattle.evc.specs.Answers.{distortionReading}
 use Rattle.evc.specs.Tests.{outside}
-use Rattle.evc.specs.Differences.{difference, sadTotal}
+use Rattle.evc.specs.Planes.{edge}
 use Rattle.evc.proofs.Tests.{outside-no}
 use Rattle.planes.specs.Areas.{outsidePlane, outsideEdges}
-use Rattle.planes.specs.Blocks.{strided, rest}
+use Rattle.planes.specs.Blocks.{cell}
 use Rattle.planes.proofs.Planes.{is-inside, rows-inside, plane-alike}
 use Rattle.planes.proofs.Replies.{rest-alike}
-use Rattle.sad.specs.Edges.{edged, AtEdges}
-use Rattle.sad.proofs.Replies.{sad-alike, sad-size, sad-depth, sad-area, sad-second, sad-rest}
-use Rattle.sad.proofs.AtEdges.{edges-in, edges-alike, as-bits, of-bits}
+use Rattle.compare.specs.Edges.{edgeCell, AtEdges}
+use Rattle.compare.proofs.Sads.{sad-alike, sad-size, sad-depth, sad-area, sad-second, sad-rest}
+use Rattle.compare.proofs.AtEdges.{edges-in, edges-alike, as-bits, of-bits}
+use Rattle.compare.specs.Totals.{BlocksTold, apart}
+use Rattle.sad.proofs.Ends.{sad-told}
 use Rattle.sad.proofs.sad.evce_sad_16b.Statement.{statement}
 use Rattle.sad.proofs.sad.evce_sad_16b.Tie as tie
 
@@ -78,7 +80,7 @@ returns-4 c =
 ready :
     (c : tie.Else4) →
     let a = c .before .before .before .before .before .before .before .before .before .before .args in
-    AtEdges (a .w) (a .h) (length (a .org .now)) (a .y * a .stride + a .x) (a .stride) (length (a .reference .now)) (a .ref-stride) (a .mv-x) (a .mv-y) (a .depth)
+    AtEdges (a .w) (a .h) (length (a .org .now)) (a .y * a .stride + a .x) (a .stride) (length (a .reference .now)) (a .ref-stride) (a .mv-x) (a .mv-y)
 ready c =
     let a = c .before .before .before .before .before .before .before .before .before .before .args in
     let s = sized (c .before .before .before .before .before .before) in
@@ -89,38 +91,61 @@ ready c =
           rows-inside (length (a .org .now)) (a .width) (a .height) (a .stride) (a .x) (a .y) (a .w) (a .h) (h .0)
           (is-inside (length (a .org .now)) (a .width) (a .height) (a .stride) (a .x) (a .y) (a .w) (a .h) (one (c .before .before)));
       two = edges-in (length (a .reference .now)) (a .ref-width) (a .ref-height) (a .ref-stride) (a .mv-x) (a .mv-y) (a .w) (a .h) w h (two c);
-      deep = outside-no 8 14 (a .depth) (deep (c .before .before .before .before));
     }
 
-mul-of-edges : tie.Need-mul-of-edges
-mul-of-edges c = omega (arith, ready c .one)
+mul-total : tie.Need-mul-total
+mul-total c = omega (arith, ready c .one)
 
-add-of-edges : tie.Need-add-of-edges
-add-of-edges c = omega (arith, ready c .one)
+add-total : tie.Need-add-total
+add-total c = omega (arith, ready c .one)
 
-of-edges-requires : tie.Need-of-edges-requires
-of-edges-requires c κs =
+total-requires : tie.Need-total-requires
+total-requires c κs =
     let s = c .before .before .before .before .before .before .before .before .before .before in
     let a = s .args in
-    as-bits
-    (λ x y. AtEdges (a .w) (a .h) (length (a .org .now)) (a .y * a .stride + a .x) (a .stride) (length (a .reference .now)) (a .ref-stride) x y (a .depth))
+    as-bits (λ x y. AtEdges (a .w) (a .h) (length (a .org .now)) (a .y * a .stride + a .x) (a .stride) (length (a .reference .now)) (a .ref-stride) x y)
     (s .fits .mv-x) (s .fits .mv-y) (ready c)
+
+sad-answer-requires : tie.Need-sad-answer-requires
+sad-answer-requires c κs = search needs
+
+-- what was told, of the positions themselves
+told :
+    (c : tie.After-sad-answer) →
+    let a = c .before .before .before .before .before .before .before .before .before .before .before .before .args in
+    BlocksTold apart (a .w) (a .h) (cell 0 (a .org .now) (a .y * a .stride + a .x) (a .stride)) (edgeCell (a .reference .now) (a .ref-stride) (a .mv-x) (a .mv-y))
+    (c .before .total .result .sum) (c .before .total .result .any)
+told c =
+    let s = c .before .before .before .before .before .before .before .before .before .before .before .before in
+    let a = s .args in
+    of-bits
+    (λ x y.
+    BlocksTold apart (a .w) (a .h) (cell 0 (a .org .now) (a .y * a .stride + a .x) (a .stride)) (edgeCell (a .reference .now) (a .ref-stride) x y)
+    (c .before .total .result .sum) (c .before .total .result .any))
+    (s .fits .mv-x) (s .fits .mv-y) (c .before .total .ensures)
+
+-- samples have 16 bits
+small : (c : tie.After-sad-answer) (j i : ℕ) → let a = c .before .before .before .before .before .before .before .before .before .before .before .before .args in cell 0 (a .org .now) (a .y * a .stride + a .x) (a .stride) j i ≤ 65535
+unfolding cell
+small c j i = let a = c .before .before .before .before .before .before .before .before .before .before .before .before .args in omega (arith, c .before .before .before .before .before .before .before .before .before .before .before .shared-slice-known .given (a .y * a .stride + a .x + j * a .stride + i))
+
+small-too : (c : tie.After-sad-answer) (j i : ℕ) → let a = c .before .before .before .before .before .before .before .before .before .before .before .before .args in edgeCell (a .reference .now) (a .ref-stride) (a .mv-x) (a .mv-y) j i ≤ 65535
+unfolding edgeCell
+small-too c j i =
+    let a = c .before .before .before .before .before .before .before .before .before .before .before .before .args in
+    omega (arith, c .before .before .before .before .before .before .before .before .before .before .shared-slice-known2 .given (edge (a .mv-y +ℤ pos j) * a .ref-stride + edge (a .mv-x +ℤ pos i)))
 
 returns-5 : tie.Need-returns-5
 returns-5 c =
-    let s = c .before .before .before .before .before .before .before .before .before .before .before in
-    let a = s .args in
-    let A = strided (a .org .now) (a .y * a .stride + a .x) (a .stride) (a .depth) in
+    let a = c .before .before .before .before .before .before .before .before .before .before .before .before .args in
     let p = plane-alike (a .org .now) (a .width) (a .height) (a .stride) (a .x) (a .y) (a .w) (a .h) (a .depth) (a .y * a .stride + a .x) refl in
     let q = edges-alike (a .reference .now) (a .ref-width) (a .ref-height) (a .ref-stride) (a .mv-x) (a .mv-y) (a .w) (a .h) (a .depth) in
-    of-bits
-    (λ x y.
-    let B = edged (a .reference .now) (a .ref-stride) x y (a .depth) in
-    distortionReading (c .of-edges .result) ≡ rest (a .w) (a .h) A B (sadTotal (a .w) (a .h) (difference A B) / 2 ^ (a .depth - 8)))
-    (s .fits .mv-x) (s .fits .mv-y) (c .of-edges .ensures)
+    let b = ready (c .before .before) .two in
+    c .sad-answer .ensures
+    ∙ sad-told (a .w) (a .h) (a .depth) (cell 0 (a .org .now) (a .y * a .stride + a .x) (a .stride)) (edgeCell (a .reference .now) (a .ref-stride) (a .mv-x) (a .mv-y))
+    (outside-no 8 14 (a .depth) (deep (c .before .before .before .before .before .before))) (b .narrow) (b .low) (small c) (small-too c) (told c)
     ∙ rest-alike p q _ _ (ap (λ (n : ℕ). n / 2 ^ (a .depth - 8)) (sad-alike p q))
-    ∙ sad-rest _ _ _ _ _ (sized (c .before .before .before .before .before .before .before)) (deep (c .before .before .before .before .before))
-    (one (c .before .before .before)) (two (c .before))
+    ∙ sad-rest _ _ _ _ _ (sized (c .before .before .before .before .before .before .before .before)) (deep (c .before .before .before .before .before .before)) (one (c .before .before .before .before)) (two (c .before .before))
 
 pub evce-sad-16b-spec : {M : Type 1} → statement M
 evce-sad-16b-spec =
@@ -134,7 +159,8 @@ evce-sad-16b-spec =
     returns-3
     outside-edges-requires
     returns-4
-    mul-of-edges
-    add-of-edges
-    of-edges-requires
+    mul-total
+    add-total
+    total-requires
+    sad-answer-requires
     returns-5)

@@ -1,0 +1,4 @@
+-- Laws that several proofs of this crate need.
+pub mod Cut
+pub mod Pairs
+pub mod Ends

@@ -1,5 +1,0 @@
--- What the contracts of the helpers below src/ cite, beyond document 01's own definitions (evc/specs) and those of planes.
-pub mod Totals
-pub mod Rests
-pub mod Edges
-pub mod Near

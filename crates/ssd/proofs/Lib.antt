@@ -1,0 +1,4 @@
+-- Laws that several proofs of this crate need.
+pub mod Squares
+pub mod Logs
+pub mod Ends

@@ -1,0 +1,72 @@
+-- `ssd_block` meets its contract. Assumes nothing.
+use mathlib.Core.Path.{subst₂}
+use lib.ListN.{length}
+use Rattle.planes.specs.Blocks.{TwoBlocks}
+use Rattle.compare.proofs.Cells.{compared-at, compared-four}
+use borrow.Author.Needs.{needs}
+use Rattle.ssd.proofs.blocks.ssd_block.Statement.{statement}
+use Rattle.ssd.proofs.blocks.ssd_block.Tie as tie
+
+ssd-rows-requires : tie.Need-ssd-rows-requires
+ssd-rows-requires c κs =
+    let s = c .before .before .before .before in
+    let a = s .args in
+    (subst₂ (λ w h. TwoBlocks w h (length (a .a .now)) (a .a-at) (a .a-stride) (length (a .b .now)) (a .b-at) (a .b-stride)) (c .before .if1 .taken) (c .if2 .taken) (s .pre .0), s .pre .1)
+
+returns : tie.Need-returns
+returns c = compared-four _ _ _ _ (c .before .before .if1 .taken) (c .before .if2 .taken) (c .ssd-rows .ensures)
+
+ssd-rows-requires-2 : tie.Need-ssd-rows-requires-2
+ssd-rows-requires-2 c κs = search needs
+
+ssd-rows-requires-3 : tie.Need-ssd-rows-requires-3
+ssd-rows-requires-3 c κs = search needs
+
+ssd-rows-requires-4 : tie.Need-ssd-rows-requires-4
+ssd-rows-requires-4 c κs = search needs
+
+ssd-rows-requires-5 : tie.Need-ssd-rows-requires-5
+ssd-rows-requires-5 c κs = search needs
+
+ssd-rows-requires-6 : tie.Need-ssd-rows-requires-6
+ssd-rows-requires-6 c κs = search needs
+
+ssd-rows-requires-7 : tie.Need-ssd-rows-requires-7
+ssd-rows-requires-7 c κs = search needs
+
+returns-2 : tie.Need-returns-2
+returns-2 c = compared-at _ 64 _ _ _ (c .before .match .keys1) (c .ssd-rows2 .ensures)
+
+returns-3 : tie.Need-returns-3
+returns-3 c = compared-at _ 32 _ _ _ (c .before .match .keys2) (c .ssd-rows3 .ensures)
+
+returns-4 : tie.Need-returns-4
+returns-4 c = compared-at _ 16 _ _ _ (c .before .match .keys3) (c .ssd-rows4 .ensures)
+
+returns-5 : tie.Need-returns-5
+returns-5 c = compared-at _ 8 _ _ _ (c .before .match .keys4) (c .ssd-rows5 .ensures)
+
+returns-6 : tie.Need-returns-6
+returns-6 c = compared-at _ 4 _ _ _ (c .before .match .keys5) (c .ssd-rows6 .ensures)
+
+returns-7 : tie.Need-returns-7
+returns-7 c = search needs
+
+pub ssd-block-spec : {M : Type 1} → statement M
+ssd-block-spec =
+    tie.close
+    (tie.spec
+    ssd-rows-requires
+    returns
+    ssd-rows-requires-2
+    ssd-rows-requires-3
+    ssd-rows-requires-4
+    ssd-rows-requires-5
+    ssd-rows-requires-6
+    ssd-rows-requires-7
+    returns-2
+    returns-3
+    returns-4
+    returns-5
+    returns-6
+    returns-7)

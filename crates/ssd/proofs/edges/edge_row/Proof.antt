@@ -1,0 +1,89 @@
+-- `edge_row` meets its contract. Assumes nothing.
+use mathlib.Core.Path.{sym, ap, ap₂, _∙_}
+use Prim.Native.Nat.{ℕ}
+use lib.Bits.{bitOr}
+use lib.IntN.{ℤ, pos, _+ℤ_}
+use lib.ListN.{getD}
+use mir.Facts.{toZ-ofZ}
+use Rattle.evc.specs.Planes.{edge}
+use Rattle.compare.proofs.Cells.{told-ext}
+use Rattle.compare.proofs.Line.{line-room, line-long, line-length, line-at}
+use Rattle.ssd.specs.Squares.{squaredLow}
+use borrow.Author.Needs.{needs}
+use Rattle.ssd.proofs.edges.edge_row.Statement.{statement}
+use Rattle.ssd.proofs.edges.edge_row.Tie as tie
+
+array-borrow-prefix-one : tie.Need-array-borrow-prefix-one
+array-borrow-prefix-one c = search needs
+
+slice-aggregate-edge-row : tie.Need-slice-aggregate-edge-row
+slice-aggregate-edge-row c = line-room _ _ (c .before .before .before .pre .0)
+
+edge-row-requires : tie.Need-edge-row-requires
+edge-row-requires c κs = search needs
+
+array-borrow-prefix-two : tie.Need-array-borrow-prefix-two
+array-borrow-prefix-two c = search needs
+
+slice-aggregate-edge-row-2 : tie.Need-slice-aggregate-edge-row-2
+slice-aggregate-edge-row-2 c = line-room _ _ (c .before .before .before .before .before .before .pre .0)
+
+edge-row-requires-2 : tie.Need-edge-row-requires-2
+edge-row-requires-2 c κs = search needs
+
+array-share-prefix-one : tie.Need-array-share-prefix-one
+array-share-prefix-one c = line-long _ _ (c .before .before .before .before .before .before .before .before .pre .0) _ _ (c .before .before .before .before .edge-row .ensures)
+
+slice-aggregate-ssd-row : tie.Need-slice-aggregate-ssd-row
+slice-aggregate-ssd-row c = sym (line-length _ _ (c .before .before .before .before .before .before .before .before .before .pre .0) _ _ (c .before .before .before .before .before .edge-row .ensures))
+
+array-share-prefix-two : tie.Need-array-share-prefix-two
+array-share-prefix-two c = line-long _ _ (c .before .before .before .before .before .before .before .before .before .pre .0) _ _ (c .before .before .edge-row2 .ensures)
+
+slice-aggregate-ssd-row-2 : tie.Need-slice-aggregate-ssd-row-2
+slice-aggregate-ssd-row-2 c = sym (line-length _ _ (c .before .before .before .before .before .before .before .before .before .before .pre .0) _ _ (c .before .before .before .edge-row2 .ensures))
+
+ssd-row-requires : tie.Need-ssd-row-requires
+ssd-row-requires c κs =
+    let s = c .before .before .before .before .before .before .before .before .before .before in (
+      record {
+        one = line-length _ _ (s .pre .0) _ _ (c .before .before .before .before .before .before .edge-row .ensures);
+        two = line-length _ _ (s .pre .0) _ _ (c .before .before .before .edge-row2 .ensures);
+        small = s .pre .0;
+      },
+      s .pre .1,
+    )
+
+returns : tie.Need-returns
+returns c =
+    let s = c .before .before .before .before .before .before .before .before .before .before .before in
+    let a = s .args in
+    let e = toZ-ofZ (s .fits .x) in
+    let F : ℕ → ℕ = λ i. getD (a .a .now) (edge (a .x +ℤ pos i)) 0 in
+    let G : ℕ → ℕ = λ i. getD (a .b .now) (edge (a .x +ℤ pos i)) 0 in
+    told-ext (λ i. squaredLow (a .depth) (F i) (G i)) (λ i. bitOr (F i) (G i)) (c .ssd-row .ensures)
+    (λ i p.
+    ap₂ (squaredLow (a .depth))
+    (line-at _ _ (s .pre .0) _ _ (c .before .before .before .before .before .before .before .edge-row .ensures) i p ∙ ap (λ (z : ℤ). getD (a .a .now) (edge (z +ℤ pos i)) 0) e)
+    (line-at _ _ (s .pre .0) _ _ (c .before .before .before .before .edge-row2 .ensures) i p ∙ ap (λ (z : ℤ). getD (a .b .now) (edge (z +ℤ pos i)) 0) e))
+    (λ i p.
+    ap₂ bitOr
+    (line-at _ _ (s .pre .0) _ _ (c .before .before .before .before .before .before .before .edge-row .ensures) i p ∙ ap (λ (z : ℤ). getD (a .a .now) (edge (z +ℤ pos i)) 0) e)
+    (line-at _ _ (s .pre .0) _ _ (c .before .before .before .before .edge-row2 .ensures) i p ∙ ap (λ (z : ℤ). getD (a .b .now) (edge (z +ℤ pos i)) 0) e))
+
+pub edge-row-spec : {M : Type 1} → statement M
+edge-row-spec =
+    tie.close
+    (tie.spec
+    array-borrow-prefix-one
+    slice-aggregate-edge-row
+    edge-row-requires
+    array-borrow-prefix-two
+    slice-aggregate-edge-row-2
+    edge-row-requires-2
+    array-share-prefix-one
+    slice-aggregate-ssd-row
+    array-share-prefix-two
+    slice-aggregate-ssd-row-2
+    ssd-row-requires
+    returns)

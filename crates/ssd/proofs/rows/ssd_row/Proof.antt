@@ -1,0 +1,134 @@
+-- `ssd_row` meets its contract. Assumes nothing.
+use Prim.Native.Nat.{ℕ, _-_, _*_, _≤_}
+use native.Mathlib.Omega.{arith}
+use mathlib.Core.Path.{_≡_, refl, _∙_}
+use mathlib.Core.List.{List}
+use lib.Bits.{bitOr}
+use lib.ListN.{getD}
+use lib.Pow.{pow-pos}
+use mir.Syntax.{w16}
+use Rattle.integers.proofs.Bits.{one-shl}
+use Rattle.ssd.specs.Squares.{squaredLow}
+use Rattle.ssd.proofs.Squares.{cut, cut-small, cut-squared, squared-low-le}
+use Rattle.compare.proofs.Running.{Running, running-start, running-step, running-end}
+use borrow.Author.Needs.{needs}
+use Rattle.ssd.proofs.rows.ssd_row.Statement.{statement}
+use Rattle.ssd.proofs.rows.ssd_row.Tie as tie
+
+abbrev Inv-loop : tie.InvT-loop
+Inv-loop a b w depth mask shift sum₀ any₀ i₀ sum any i =
+    Running w (λ k. squaredLow depth (getD a k 0) (getD b k 0)) (λ k. bitOr (getD a k 0) (getD b k 0)) sum any i × (sum ≤ i * 65535) × (shift ≡ 2 * (depth - 8))
+
+abbrev μ-loop : tie.MeasureT-loop
+μ-loop a b w depth mask shift sum₀ any₀ i₀ sum any i = w - i
+
+-- the two rows, the place, and the depth
+abbrev rowA : tie.After-share Inv-loop μ-loop → List ℕ
+rowA c = c .before .before .before .before .before .before .before .args .a .now
+
+abbrev rowB : tie.After-share Inv-loop μ-loop → List ℕ
+rowB c = c .before .before .before .before .before .before .before .args .b .now
+
+abbrev at : tie.After-share Inv-loop μ-loop → ℕ
+at c = c .before .before .before .before .loop .i
+
+abbrev depthOf : tie.After-share Inv-loop μ-loop → ℕ
+depthOf c = c .before .before .before .before .before .before .before .args .depth
+
+shl-mask : tie.Need-shl-mask Inv-loop μ-loop
+shl-mask c = omega (arith, c .before .before .pre .1)
+
+sub-mask : tie.Need-sub-mask Inv-loop μ-loop
+sub-mask c =
+    let a = c .before .before .args in
+    omega (arith, one-shl w16 (a .depth) (omega (arith, c .before .before .pre .1)), pow-pos (a .depth))
+
+sub-shift : tie.Need-sub-shift Inv-loop μ-loop
+sub-shift c = omega (arith, c .before .before .pre .1)
+
+mul-shift : tie.Need-mul-shift Inv-loop μ-loop
+mul-shift c = omega (arith, c .before .before .pre .1)
+
+loop-holds : tie.Need-loop-holds Inv-loop μ-loop
+loop-holds c = (running-start, omega arith, refl)
+
+mul-p : tie.Need-mul-p Inv-loop μ-loop
+mul-p c = omega arith
+
+shared-slice-read-p : tie.Need-shared-slice-read-p Inv-loop μ-loop
+shared-slice-read-p c = omega arith
+
+mul-q : tie.Need-mul-q Inv-loop μ-loop
+mul-q c = omega arith
+
+shared-slice-read-q : tie.Need-shared-slice-read-q Inv-loop μ-loop
+shared-slice-read-q c = omega arith
+
+share-requires : tie.Need-share-requires Inv-loop μ-loop
+share-requires c κs =
+    let s = c .before .before .before .before .before .before in
+    let a = s .args in
+    let i = c .before .before .before .loop .i in
+    let p = getD (a .a .now) i 0 in
+    let q = getD (a .b .now) i 0 in
+    let h = s .pre .1 .1 in (
+      (
+        omega (arith, cut p (a .depth) (omega arith), cut-small p (a .depth) h),
+        omega (arith, cut q (a .depth) (omega arith), cut-small q (a .depth) h),
+        omega (arith, h),
+      ),
+      omega (arith, cut-squared (a .depth) p q (omega arith), squared-low-le (a .depth) p q (s .pre .1 .0)),
+    )
+
+-- the summand of this turn, and what it is at most
+summand : (c : tie.After-share Inv-loop μ-loop) → c .share .result ≡ squaredLow (depthOf c) (getD (rowA c) (at c) 0) (getD (rowB c) (at c) 0)
+summand c =
+    let h = c .before .before .before .before .before .before .before .pre .1 .1 in
+    c .share .ensures ∙ cut-squared (depthOf c) (getD (rowA c) (at c) 0) (getD (rowB c) (at c) 0) (omega arith)
+
+most : (c : tie.After-share Inv-loop μ-loop) → c .share .result ≤ 65535
+most c =
+    omega (arith, summand c, squared-low-le (depthOf c) (getD (rowA c) (at c) 0) (getD (rowB c) (at c) 0) (c .before .before .before .before .before .before .before .pre .1 .0))
+
+add-sum : tie.Need-add-sum Inv-loop μ-loop
+add-sum c = omega (arith, most c, c .before .before .before .before .loop .inv .1, c .before .before .before .before .before .before .before .pre .0 .small)
+
+add-i : tie.Need-add-i Inv-loop μ-loop
+add-i c = omega arith
+
+loop-less : tie.Need-loop-less Inv-loop μ-loop
+loop-less c = omega arith
+
+loop-again : tie.Need-loop-again Inv-loop μ-loop
+loop-again c =
+    let l = c .before .before .before .before .loop in
+    (running-step (l .inv .0) (omega arith) (summand c) refl, omega (arith, most c, l .inv .1), l .inv .2)
+
+cast-all : tie.Need-cast-all Inv-loop μ-loop
+cast-all c = search needs
+
+returns : tie.Need-returns Inv-loop μ-loop
+returns c = running-end (c .before .loop .inv .0) (omega arith)
+
+pub ssd-row-spec : {M : Type 1} → statement M
+ssd-row-spec =
+    tie.close
+    (tie.spec
+    Inv-loop
+    μ-loop
+    shl-mask
+    sub-mask
+    sub-shift
+    mul-shift
+    loop-holds
+    mul-p
+    shared-slice-read-p
+    mul-q
+    shared-slice-read-q
+    share-requires
+    add-sum
+    add-i
+    loop-less
+    loop-again
+    cast-all
+    returns)

@@ -1,0 +1,175 @@
+-- `evce_ssd_16b` meets its contract: each refusal is the first broken test, and what is left is read alike. Assumes nothing.
+use mathlib.Core.Path.{_≡_, refl, sym, ap, _∙_}
+use mathlib.Core.Bool.{false, _||_}
+use Prim.Native.Nat.{ℕ, _+_, _*_, _-_, _^_}
+use native.Mathlib.Omega.{arith}
+use borrow.Author.Needs.{needs}
+use lib.Dec.{ltb}
+use lib.IntN.{pos}
+use lib.ListN.{length}
+use Rattle.evc.specs.Tests.{outside}
+use Rattle.evc.specs.Planes.{Block, inPlane, inPacked, planeOf}
+use Rattle.evc.proofs.Tests.{outside-no}
+use Rattle.planes.specs.Areas.{outsidePlane}
+use Rattle.planes.specs.Blocks.{TwoBlocks, cell}
+use Rattle.planes.proofs.Planes.{is-inside, rows-inside, plane-alike}
+use Rattle.planes.proofs.Replies.{rest-alike}
+use Rattle.planes.proofs.SmallSides.{logs-small, side-small, shifted, shifted-is}
+use Rattle.ssd.proofs.Ends.{ssd-alike, ssd-small, ssd-told}
+use Rattle.ssd.proofs.Logs.{ssd-size, ssd-depth, ssd-area, ssd-second, ssd-rest}
+use Rattle.ssd.proofs.ssd.evce_ssd_16b.Statement.{statement}
+use Rattle.ssd.proofs.ssd.evce_ssd_16b.Tie as tie
+
+-- the two blocks, by their sides
+abbrev A : tie.After-shared-slice-known2 → ℕ → ℕ → Block
+A c w h = let a = c .before .before .args in inPlane (planeOf (a .org .now) (a .width) (a .height) (a .stride)) (a .x) (a .y) w h (a .depth)
+
+abbrev B : tie.After-shared-slice-known2 → ℕ → ℕ → Block
+B c w h = let a = c .before .before .args in inPacked (a .cur .now) w h (a .depth)
+
+-- what each test that was left says
+sized : (c : tie.Else1) → let a = c .before .before .before .before .args in ltb 6 (a .log2-w) || ltb 6 (a .log2-h) ≡ false
+sized c = sym (c .before .logs .ensures) ∙ c .if1 .left
+
+deep : (c : tie.Else2) → outside 8 14 (c .before .before .before .before .before .before .args .depth) ≡ false
+deep c = sym (c .before .wrong-depth .ensures) ∙ c .if2 .left
+
+one :
+    (c : tie.Else3) →
+    let s = c .before .before .before .before in
+    let a = s .before .before .before .before .args in
+    outsidePlane (length (a .org .now)) (a .width) (a .height) (a .stride) (a .x) (a .y) (shifted (a .log2-w)) (shifted (a .log2-h)) ≡ false
+one c = sym (c .before .outside-plane .ensures) ∙ c .if3 .left
+
+two :
+    (c : tie.Else4) →
+    let s = c .before .before .before .before .before .before in
+    let a = s .before .before .before .before .args in
+    outsidePlane (length (a .cur .now)) (shifted (a .log2-w)) (shifted (a .log2-h)) (shifted (a .log2-w)) 0 0 (shifted (a .log2-w)) (shifted (a .log2-h))
+    ≡ false
+two c = sym (c .before .outside-plane2 .ensures) ∙ c .if4 .left
+
+logs-requires : tie.Need-logs-requires
+logs-requires c κs = search needs
+
+returns : tie.Need-returns
+returns c =
+    let a = c .before .before .before .before .args in
+    ssd-size (a .log2-w) (a .log2-h) (a .depth) (A (c .before .before)) (B (c .before .before)) (sym (c .before .logs .ensures) ∙ c .if1 .taken)
+
+-- the sides
+wide : (c : tie.Else1) → let a = c .before .before .before .before .args in shifted (a .log2-w) ≡ 2 ^ a .log2-w
+wide c = let a = c .before .before .before .before .args in shifted-is (a .log2-w) (logs-small (a .log2-w) (a .log2-h) (sized c) .0)
+
+high : (c : tie.Else1) → let a = c .before .before .before .before .args in shifted (a .log2-h) ≡ 2 ^ a .log2-h
+high c = let a = c .before .before .before .before .args in shifted-is (a .log2-h) (logs-small (a .log2-w) (a .log2-h) (sized c) .1)
+
+shl-w : tie.Need-shl-w
+shl-w c = let a = c .before .before .before .before .args in omega (arith, logs-small (a .log2-w) (a .log2-h) (sized c) .0)
+
+shl-h : tie.Need-shl-h
+shl-h c = let a = c .before .before .before .before .args in omega (arith, logs-small (a .log2-w) (a .log2-h) (sized c) .1)
+
+wrong-depth-requires : tie.Need-wrong-depth-requires
+wrong-depth-requires c κs = search needs
+
+returns-2 : tie.Need-returns-2
+returns-2 c =
+    let s = c .before .before in
+    let a = s .before .before .before .before .args in
+    ssd-depth (a .log2-w) (a .log2-h) (a .depth) (A (s .before .before)) (B (s .before .before)) (shifted (a .log2-w))
+    (shifted (a .log2-h)) (wide s) (high s) (sized s) (sym (c .before .wrong-depth .ensures) ∙ c .if2 .taken)
+
+outside-plane-requires : tie.Need-outside-plane-requires
+outside-plane-requires c κs = search needs
+
+returns-3 : tie.Need-returns-3
+returns-3 c =
+    let s = c .before .before .before .before in
+    let a = s .before .before .before .before .args in
+    ssd-area (a .log2-w) (a .log2-h) (a .depth) (A (s .before .before)) (B (s .before .before)) (shifted (a .log2-w))
+    (shifted (a .log2-h)) (wide s) (high s) (sized s) (deep (c .before .before))
+    (sym (c .before .outside-plane .ensures) ∙ c .if3 .taken)
+
+outside-plane-requires-2 : tie.Need-outside-plane-requires-2
+outside-plane-requires-2 c κs = search needs
+
+returns-4 : tie.Need-returns-4
+returns-4 c =
+    let s = c .before .before .before .before .before .before in
+    let a = s .before .before .before .before .args in
+    ssd-second (a .log2-w) (a .log2-h) (a .depth) (A (s .before .before)) (B (s .before .before)) (shifted (a .log2-w))
+    (shifted (a .log2-h)) (wide s) (high s) (sized s) (deep (c .before .before .before .before))
+    (one (c .before .before)) (sym (c .before .outside-plane2 .ensures) ∙ c .if4 .taken)
+
+-- both blocks lie inside their buffers
+blocks :
+    (c : tie.Else4) →
+    let s = c .before .before .before .before .before .before in
+    let a = s .before .before .before .before .args in
+    TwoBlocks (shifted (a .log2-w)) (shifted (a .log2-h)) (length (a .org .now)) (a .y * a .stride + a .x) (a .stride) (length (a .cur .now)) 0
+    (shifted (a .log2-w))
+blocks c =
+    let s = c .before .before .before .before .before .before in
+    let a = s .before .before .before .before .args in
+    let k = logs-small (a .log2-w) (a .log2-h) (sized s) in
+    let w = shifted (a .log2-w) in
+    let h = shifted (a .log2-h) in
+    record {
+      narrow = side-small (a .log2-w) w (wide s) (k .0) .1;
+      low = side-small (a .log2-h) h (high s) (k .1) .1;
+      one =
+          rows-inside (length (a .org .now)) (a .width) (a .height) (a .stride) (a .x) (a .y) w h
+          (side-small (a .log2-h) h (high s) (k .1) .0)
+          (is-inside (length (a .org .now)) (a .width) (a .height) (a .stride) (a .x) (a .y) w h (one (c .before .before)));
+      two = omega (arith, is-inside (length (a .cur .now)) w h w 0 0 w h (two c) .formed .long);
+    }
+
+mul-ssd-block : tie.Need-mul-ssd-block
+mul-ssd-block c = omega (arith, blocks c .one)
+
+add-ssd-block : tie.Need-add-ssd-block
+add-ssd-block c = omega (arith, blocks c .one)
+
+ssd-block-requires : tie.Need-ssd-block-requires
+ssd-block-requires c κs = (blocks c, outside-no 8 14 _ (deep (c .before .before .before .before)))
+
+end-requires : tie.Need-end-requires
+end-requires c κs =
+    let b = blocks (c .before) in
+    let d = outside-no 8 14 _ (deep (c .before .before .before .before .before)) in
+    (d .1, ssd-small _ _ _ _ _ (c .ssd-block .ensures) (d .0) (b .narrow) (b .low))
+
+returns-5 : tie.Need-returns-5
+returns-5 c =
+    let s = c .before .before .before .before .before .before .before .before in
+    let a = s .before .before .before .before .args in
+    let w = shifted (a .log2-w) in
+    let h = shifted (a .log2-h) in
+    let p = plane-alike (a .org .now) (a .width) (a .height) (a .stride) (a .x) (a .y) w h (a .depth) (a .y * a .stride + a .x) refl in
+    let q = plane-alike (a .cur .now) w h w 0 0 w h (a .depth) 0 (omega arith) in
+    c .end .ensures
+    ∙ ssd-told w h (a .depth) (cell 0 (a .org .now) (a .y * a .stride + a .x) (a .stride)) (cell 0 (a .cur .now) 0 w) (c .before .ssd-block .ensures)
+    ∙ rest-alike p q _ _ (ap pos (ssd-alike p q (2 * (a .depth - 8))))
+    ∙ ssd-rest (a .log2-w) (a .log2-h) (a .depth) (A (s .before .before)) (B (s .before .before)) w h (wide s)
+    (high s) (sized s) (deep (c .before .before .before .before .before .before)) (one (c .before .before .before .before)) (two (c .before .before))
+
+pub evce-ssd-16b-spec : {M : Type 1} → statement M
+evce-ssd-16b-spec =
+    tie.close
+    (tie.spec
+    logs-requires
+    returns
+    shl-w
+    shl-h
+    wrong-depth-requires
+    returns-2
+    outside-plane-requires
+    returns-3
+    outside-plane-requires-2
+    returns-4
+    mul-ssd-block
+    add-ssd-block
+    ssd-block-requires
+    end-requires
+    returns-5)

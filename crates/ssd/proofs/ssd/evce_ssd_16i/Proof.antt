@@ -1,0 +1,218 @@
+-- `evce_ssd_16i` meets its contract: each refusal is the first broken test, and what is left is read alike. Assumes nothing.
+use mathlib.Core.Path.{_≡_, sym, ap, _∙_}
+use mathlib.Core.Bool.{false, _||_}
+use Prim.Native.Nat.{ℕ, _*_, _-_, _^_}
+use native.Mathlib.Omega.{arith}
+use borrow.Author.Needs.{needs}
+use lib.Dec.{ltb}
+use lib.IntN.{pos}
+use lib.ListN.{length}
+use Rattle.evc.specs.Tests.{outside}
+use Rattle.evc.specs.Planes.{Block, atEdges, planeOf}
+use Rattle.evc.proofs.Tests.{outside-no}
+use Rattle.planes.specs.Areas.{outsideEdges}
+use Rattle.planes.proofs.Replies.{rest-alike}
+use Rattle.planes.proofs.SmallSides.{logs-small, side-small, shifted, shifted-is}
+use Rattle.compare.specs.Totals.{BlocksTold}
+use Rattle.compare.specs.Edges.{edgeCell, EdgesIn}
+use Rattle.compare.proofs.AtEdges.{edges-in, edges-alike, as-bits, of-bits}
+use Rattle.ssd.proofs.Ends.{ssd-alike, ssd-small, ssd-told}
+use Rattle.ssd.specs.Squares.{squaredLow}
+use Rattle.ssd.proofs.Logs.{ssd-size, ssd-depth, ssd-area, ssd-second, ssd-rest}
+use Rattle.ssd.proofs.ssd.evce_ssd_16i.Statement.{statement}
+use Rattle.ssd.proofs.ssd.evce_ssd_16i.Tie as tie
+
+-- the two blocks, by their sides
+abbrev A : tie.After-shared-slice-known2 → ℕ → ℕ → Block
+A c w h = let a = c .before .before .args in atEdges (planeOf (a .one .now) (a .width1) (a .height1) (a .stride1)) (a .x) (a .y) w h (a .depth)
+
+abbrev B : tie.After-shared-slice-known2 → ℕ → ℕ → Block
+B c w h = let a = c .before .before .args in atEdges (planeOf (a .two .now) (a .width2) (a .height2) (a .stride2)) (a .x) (a .y) w h (a .depth)
+
+-- what each test that was left says
+sized : (c : tie.Else1) → let a = c .before .before .before .before .args in ltb 6 (a .log2-w) || ltb 6 (a .log2-h) ≡ false
+sized c = sym (c .before .logs .ensures) ∙ c .if1 .left
+
+deep : (c : tie.Else2) → outside 8 14 (c .before .before .before .before .before .before .args .depth) ≡ false
+deep c = sym (c .before .wrong-depth .ensures) ∙ c .if2 .left
+
+-- the positions come as their bits
+far1 :
+    (c : tie.After-outside-edges) →
+    let s = c .before .before .before in
+    let a = s .before .before .before .before .args in
+    c .outside-edges .result
+    ≡ outsideEdges (length (a .one .now)) (a .width1) (a .height1) (a .stride1) (a .x) (a .y) (shifted (a .log2-w)) (shifted (a .log2-h))
+far1 c =
+    let s = c .before .before .before in
+    let t = s .before .before .before .before in
+    let a = t .args in
+    of-bits (λ x y. c .outside-edges .result ≡ outsideEdges (length (a .one .now)) (a .width1) (a .height1) (a .stride1) x y (shifted (a .log2-w)) (shifted (a .log2-h)))
+    (t .fits .x) (t .fits .y) (c .outside-edges .ensures)
+
+far2 :
+    (c : tie.After-outside-edges2) →
+    let s = c .before .before .before .before .before in
+    let a = s .before .before .before .before .args in
+    c .outside-edges2 .result
+    ≡ outsideEdges (length (a .two .now)) (a .width2) (a .height2) (a .stride2) (a .x) (a .y) (shifted (a .log2-w)) (shifted (a .log2-h))
+far2 c =
+    let s = c .before .before .before .before .before in
+    let t = s .before .before .before .before in
+    let a = t .args in
+    of-bits (λ x y. c .outside-edges2 .result ≡ outsideEdges (length (a .two .now)) (a .width2) (a .height2) (a .stride2) x y (shifted (a .log2-w)) (shifted (a .log2-h)))
+    (t .fits .x) (t .fits .y) (c .outside-edges2 .ensures)
+
+one :
+    (c : tie.Else3) →
+    let s = c .before .before .before .before in
+    let a = s .before .before .before .before .args in
+    outsideEdges (length (a .one .now)) (a .width1) (a .height1) (a .stride1) (a .x) (a .y) (shifted (a .log2-w)) (shifted (a .log2-h)) ≡ false
+one c = sym (far1 (c .before)) ∙ c .if3 .left
+
+two :
+    (c : tie.Else4) →
+    let s = c .before .before .before .before .before .before in
+    let a = s .before .before .before .before .args in
+    outsideEdges (length (a .two .now)) (a .width2) (a .height2) (a .stride2) (a .x) (a .y) (shifted (a .log2-w)) (shifted (a .log2-h)) ≡ false
+two c = sym (far2 (c .before)) ∙ c .if4 .left
+
+logs-requires : tie.Need-logs-requires
+logs-requires c κs = search needs
+
+returns : tie.Need-returns
+returns c =
+    let a = c .before .before .before .before .args in
+    ssd-size (a .log2-w) (a .log2-h) (a .depth) (A (c .before .before)) (B (c .before .before)) (sym (c .before .logs .ensures) ∙ c .if1 .taken)
+
+-- the sides
+wide : (c : tie.Else1) → let a = c .before .before .before .before .args in shifted (a .log2-w) ≡ 2 ^ a .log2-w
+wide c = let a = c .before .before .before .before .args in shifted-is (a .log2-w) (logs-small (a .log2-w) (a .log2-h) (sized c) .0)
+
+high : (c : tie.Else1) → let a = c .before .before .before .before .args in shifted (a .log2-h) ≡ 2 ^ a .log2-h
+high c = let a = c .before .before .before .before .args in shifted-is (a .log2-h) (logs-small (a .log2-w) (a .log2-h) (sized c) .1)
+
+shl-w : tie.Need-shl-w
+shl-w c = let a = c .before .before .before .before .args in omega (arith, logs-small (a .log2-w) (a .log2-h) (sized c) .0)
+
+shl-h : tie.Need-shl-h
+shl-h c = let a = c .before .before .before .before .args in omega (arith, logs-small (a .log2-w) (a .log2-h) (sized c) .1)
+
+wrong-depth-requires : tie.Need-wrong-depth-requires
+wrong-depth-requires c κs = search needs
+
+returns-2 : tie.Need-returns-2
+returns-2 c =
+    let s = c .before .before in
+    let a = s .before .before .before .before .args in
+    ssd-depth (a .log2-w) (a .log2-h) (a .depth) (A (s .before .before)) (B (s .before .before)) (shifted (a .log2-w))
+    (shifted (a .log2-h)) (wide s) (high s) (sized s) (sym (c .before .wrong-depth .ensures) ∙ c .if2 .taken)
+
+outside-edges-requires : tie.Need-outside-edges-requires
+outside-edges-requires c κs = search needs
+
+returns-3 : tie.Need-returns-3
+returns-3 c =
+    let s = c .before .before .before .before in
+    let a = s .before .before .before .before .args in
+    ssd-area (a .log2-w) (a .log2-h) (a .depth) (A (s .before .before)) (B (s .before .before)) (shifted (a .log2-w))
+    (shifted (a .log2-h)) (wide s) (high s) (sized s) (deep (c .before .before))
+    (sym (far1 (c .before)) ∙ c .if3 .taken)
+
+outside-edges-requires-2 : tie.Need-outside-edges-requires-2
+outside-edges-requires-2 c κs = search needs
+
+returns-4 : tie.Need-returns-4
+returns-4 c =
+    let s = c .before .before .before .before .before .before in
+    let a = s .before .before .before .before .args in
+    ssd-second (a .log2-w) (a .log2-h) (a .depth) (A (s .before .before)) (B (s .before .before)) (shifted (a .log2-w))
+    (shifted (a .log2-h)) (wide s) (high s) (sized s) (deep (c .before .before .before .before))
+    (one (c .before .before)) (sym (far2 (c .before)) ∙ c .if4 .taken)
+
+-- both blocks read inside their planes
+ready :
+    (c : tie.Else4) →
+    let s = c .before .before .before .before .before .before in
+    let a = s .before .before .before .before .args in
+    let w = shifted (a .log2-w) in
+    let h = shifted (a .log2-h) in
+    EdgesIn (length (a .one .now)) (a .stride1) (a .x) (a .y) w h × EdgesIn (length (a .two .now)) (a .stride2) (a .x) (a .y) w h
+ready c =
+    let s = c .before .before .before .before .before .before in
+    let a = s .before .before .before .before .args in
+    let k = logs-small (a .log2-w) (a .log2-h) (sized s) in
+    let w = shifted (a .log2-w) in
+    let h = shifted (a .log2-h) in
+    let u = side-small (a .log2-w) w (wide s) (k .0) in
+    let v = side-small (a .log2-h) h (high s) (k .1) in (
+      edges-in (length (a .one .now)) (a .width1) (a .height1) (a .stride1) (a .x) (a .y) w h u v (one (c .before .before)),
+      edges-in (length (a .two .now)) (a .width2) (a .height2) (a .stride2) (a .x) (a .y) w h u v (two c),
+    )
+
+total-requires : tie.Need-total-requires
+total-requires c κs =
+    let t = c .before .before .before .before .before .before .before .before .before .before in
+    let a = t .args in
+    let w = shifted (a .log2-w) in
+    let h = shifted (a .log2-h) in (
+      as-bits (λ x y. EdgesIn (length (a .one .now)) (a .stride1) x y w h) (t .fits .x) (t .fits .y) (ready c .0),
+      (
+        as-bits (λ x y. EdgesIn (length (a .two .now)) (a .stride2) x y w h) (t .fits .x) (t .fits .y) (ready c .1),
+        outside-no 8 14 (a .depth) (deep (c .before .before .before .before)),
+      ),
+    )
+
+-- what was told, of the positions themselves
+told :
+    (c : tie.After-total) →
+    let a = c .before .before .before .before .before .before .before .before .before .before .before .args in
+    BlocksTold (squaredLow (a .depth)) (shifted (a .log2-w)) (shifted (a .log2-h)) (edgeCell (a .one .now) (a .stride1) (a .x) (a .y))
+    (edgeCell (a .two .now) (a .stride2) (a .x) (a .y)) (c .total .result .sum) (c .total .result .any)
+told c =
+    let t = c .before .before .before .before .before .before .before .before .before .before .before in
+    let a = t .args in
+    of-bits
+    (λ x y.
+    BlocksTold (squaredLow (a .depth)) (shifted (a .log2-w)) (shifted (a .log2-h)) (edgeCell (a .one .now) (a .stride1) x y)
+    (edgeCell (a .two .now) (a .stride2) x y) (c .total .result .sum) (c .total .result .any))
+    (t .fits .x) (t .fits .y) (c .total .ensures)
+
+end-requires : tie.Need-end-requires
+end-requires c κs =
+    let a = c .before .before .before .before .before .before .before .before .before .before .before .args in
+    let b = ready (c .before) .0 in
+    let d = outside-no 8 14 (a .depth) (deep (c .before .before .before .before .before)) in
+    (d .1, ssd-small (shifted (a .log2-w)) (shifted (a .log2-h)) (a .depth) (edgeCell (a .one .now) (a .stride1) (a .x) (a .y)) (edgeCell (a .two .now) (a .stride2) (a .x) (a .y)) (told c) (d .0) (b .narrow) (b .low))
+
+returns-5 : tie.Need-returns-5
+returns-5 c =
+    let s = c .before .before .before .before .before .before .before .before in
+    let a = s .before .before .before .before .args in
+    let w = shifted (a .log2-w) in
+    let h = shifted (a .log2-h) in
+    let p = edges-alike (a .one .now) (a .width1) (a .height1) (a .stride1) (a .x) (a .y) w h (a .depth) in
+    let q = edges-alike (a .two .now) (a .width2) (a .height2) (a .stride2) (a .x) (a .y) w h (a .depth) in
+    c .end .ensures
+    ∙ ssd-told w h (a .depth) (edgeCell (a .one .now) (a .stride1) (a .x) (a .y)) (edgeCell (a .two .now) (a .stride2) (a .x) (a .y)) (told (c .before))
+    ∙ rest-alike p q _ _ (ap pos (ssd-alike p q (2 * (a .depth - 8))))
+    ∙ ssd-rest (a .log2-w) (a .log2-h) (a .depth) (A (s .before .before)) (B (s .before .before)) w h (wide s)
+    (high s) (sized s) (deep (c .before .before .before .before .before .before)) (one (c .before .before .before .before)) (two (c .before .before))
+
+pub evce-ssd-16i-spec : {M : Type 1} → statement M
+evce-ssd-16i-spec =
+    tie.close
+    (tie.spec
+    logs-requires
+    returns
+    shl-w
+    shl-h
+    wrong-depth-requires
+    returns-2
+    outside-edges-requires
+    returns-3
+    outside-edges-requires-2
+    returns-4
+    total-requires
+    end-requires
+    returns-5)
