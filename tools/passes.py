@@ -41,10 +41,10 @@ def line(side, locals_, puts):
         "use lib.IntN.{ℤ, pow, one}",
         "use mir.Syntax.{w32}",
         "use borrow.Author.Needs.{needs}",
-        "use Rattle.integers.proofs.Expr.{Ex, var, add, sub, stored}",
+        "use Rattle.integers.proofs.Expr.{Ex, var, add, sub, stored" + (", raw, machines}" if len(puts) > 1 else "}"),
         "use Rattle.evc.specs.Tiles.{sign}",
-        "use Rattle.hadamard.specs.Passes.{place, RowWithin, puts}",
-        "use Rattle.hadamard.proofs.Lines.{fits, line-is}",
+        "use Rattle.hadamard.specs.Passes.{place, RowWithin, " + ("put, " if len(puts) > 1 else "") + "puts}",
+        "use Rattle.hadamard.proofs.Lines.{" + ("known, " if len(puts) > 1 else "") + "fits, line-is}",
         f"use {here}.Statement.{{statement}}",
         f"use {here}.Tie as tie",
         "",
@@ -82,15 +82,23 @@ def line(side, locals_, puts):
         back += " .before .before"
     start = " ".join([".before"] * (2 * len(puts)))
     calls = list(puts)
-    put = f"c .{calls[-1]} .ensures"
     if len(calls) > 1:
-        put = f"(rw (c .before .before .{calls[0]} .ensures) at ({put}))"
+        # what the second call put, on what the first had put
+        block = "m"
+        for b in range(side // 2, side):
+            block = f"put {b} (s .args .j) (place (made s) {b}) ({block})" if b > side // 2 else f"put {b} (s .args .j) (place (made s) {b}) {block}"
+        first = [f"    ∙ ap (λ (m : List (List ℤ)). {block}) (c .before .before .{calls[0]} .ensures)"]
+        out += ["abbrev made : tie.Start → List ℤ", "made s = map (raw (machines (known (input s) (small s)))) results", ""]
+    else:
+        first = []
     out += [
         "returns : tie.Need-returns",
         "unfolding sign ones onesIn pow one",
         "returns c =",
         f"    let s = c {start} in",
-        f"    {put} ∙ ap (λ (l : List ℤ). puts (place l) (s .args .j) (s .args .out .now) {side}) (line-is (input s) (small s) results tt tt)",
+        f"    c .{calls[-1]} .ensures",
+        *first,
+        f"    ∙ ap (λ (l : List ℤ). puts (place l) (s .args .j) (s .args .out .now) {side}) (line-is (input s) (small s) results tt tt)",
         "",
         "pub line-spec : {M : Type 1} → statement M",
         "line-spec =",

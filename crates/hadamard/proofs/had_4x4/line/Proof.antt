@@ -65,7 +65,8 @@ returns : tie.Need-returns
 unfolding sign ones onesIn pow one
 returns c =
     let s = c .before .before in
-    c .put-all .ensures ∙ ap (λ (l : List ℤ). puts (place l) (s .args .j) (s .args .out .now) 4) (line-is (input s) (small s) results tt tt)
+    c .put-all .ensures
+    ∙ ap (λ (l : List ℤ). puts (place l) (s .args .j) (s .args .out .now) 4) (line-is (input s) (small s) results tt tt)
 
 pub line-spec : {M : Type 1} → statement M
 line-spec =

@@ -6,10 +6,10 @@ use lib.Count.{ones, onesIn}
 use lib.IntN.{ℤ, pow, one}
 use mir.Syntax.{w32}
 use borrow.Author.Needs.{needs}
-use Rattle.integers.proofs.Expr.{Ex, var, add, sub, stored}
+use Rattle.integers.proofs.Expr.{Ex, var, add, sub, stored, raw, machines}
 use Rattle.evc.specs.Tiles.{sign}
-use Rattle.hadamard.specs.Passes.{place, RowWithin, puts}
-use Rattle.hadamard.proofs.Lines.{fits, line-is}
+use Rattle.hadamard.specs.Passes.{place, RowWithin, put, puts}
+use Rattle.hadamard.proofs.Lines.{known, fits, line-is}
 use Rattle.hadamard.proofs.had_8x8.line.Statement.{statement}
 use Rattle.hadamard.proofs.had_8x8.line.Tie as tie
 
@@ -148,11 +148,16 @@ sub-put-high-2 c = fits (input (c .before .before .before)) (small (c .before .b
 put-high-requires : tie.Need-put-high-requires
 put-high-requires c κs = search needs
 
+abbrev made : tie.Start → List ℤ
+made s = map (raw (machines (known (input s) (small s)))) results
+
 returns : tie.Need-returns
 unfolding sign ones onesIn pow one
 returns c =
     let s = c .before .before .before .before in
-    (rw (c .before .before .put-low .ensures) at (c .put-high .ensures)) ∙ ap (λ (l : List ℤ). puts (place l) (s .args .j) (s .args .out .now) 8) (line-is (input s) (small s) results tt tt)
+    c .put-high .ensures
+    ∙ ap (λ (m : List (List ℤ)). put 7 (s .args .j) (place (made s) 7) (put 6 (s .args .j) (place (made s) 6) (put 5 (s .args .j) (place (made s) 5) (put 4 (s .args .j) (place (made s) 4) m)))) (c .before .before .put-low .ensures)
+    ∙ ap (λ (l : List ℤ). puts (place l) (s .args .j) (s .args .out .now) 8) (line-is (input s) (small s) results tt tt)
 
 pub line-spec : {M : Type 1} → statement M
 line-spec =
