@@ -11,8 +11,8 @@ use lib.ListN.{length, getD, set, length-set, replicate, length-replicate, getD-
 use lib.Seq.{getD-set-same, getD-set-other}
 use Rattle.integers.specs.Lists.{tab}
 use Rattle.integers.proofs.Written.{is-tab}
-use Rattle.hadamard.specs.Passes.{puts}
 use Rattle.integers.proofs.Loop.{Filled, filled-start, filled-step, filled-end}
+use Rattle.hadamard.specs.Passes.{puts}
 
 module _ {A : Type 0} (v : ℕ → A) (j : ℕ) (out : List (List A)) where
   puts-long : (k : ℕ) → length (puts v j out k) ≡ length out
