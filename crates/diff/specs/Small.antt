@@ -1,5 +1,5 @@
 -- Samples that were tested: below 2^14, the limit of the largest depth. And the OR by which they
--- are tested. Cited by the contracts of src/. Assumes nothing.
+-- are tested. Cited by the contracts of src/, and by those of the crate satd. Assumes nothing.
 use mathlib.Core.List.{List}
 use Prim.Native.Nat.{ℕ, _+_, _*_, _<_, _≤_}
 use lib.Bits.{bitOr}

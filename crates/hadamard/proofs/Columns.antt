@@ -1,5 +1,5 @@
--- The invariant of a loop that fills a block column by column, each turn's stores written out: `Columns n F out j` says that the first j
--- columns are filled. It has its start, its turn and its end. First what a turn's stores leave. Assumes nothing.
+-- The invariant of a loop that fills a block column by column, each turn's puts written out: `Columns n F out j` says that the first j
+-- columns are filled. It has its start, its turn and its end. First what a turn's puts leave. Assumes nothing.
 -- ---- laws of numbers and lists
 use mathlib.Core.Path.{_≡_, refl, sym, ap, _∙_, subst}
 use mathlib.Core.List.{List, []}
@@ -12,35 +12,31 @@ use lib.Seq.{getD-set-same, getD-set-other}
 use Rattle.integers.specs.Lists.{tab}
 use Rattle.integers.proofs.Written.{is-tab}
 use Rattle.integers.proofs.Loop.{Filled, filled-start, filled-step, filled-end}
+use Rattle.hadamard.specs.Passes.{puts}
 
 module _ {A : Type 0} (v : ℕ → A) (j : ℕ) (out : List (List A)) where
-  -- out after v 0 was stored into column j of row 0, .., v (k-1) into that of row k-1
-  abbrev pub stores : ℕ → List (List A)
-  stores zero = out
-  stores (suc k) = set (stores k) k (set (getD (stores k) k []) j (v k))
-
-  stores-long : (k : ℕ) → length (stores k) ≡ length out
-  stores-long zero = refl
-  stores-long (suc k) = length-set (stores k) k (set (getD (stores k) k []) j (v k)) ∙ stores-long k
+  puts-long : (k : ℕ) → length (puts v j out k) ≡ length out
+  puts-long zero = refl
+  puts-long (suc k) = length-set (puts v j out k) k (set (getD (puts v j out k) k []) j (v k)) ∙ puts-long k
 
   -- a row past those is as it was
-  stores-past : (k b : ℕ) → k ≤ b → getD (stores k) b [] ≡ getD out b []
-  stores-past zero b p = refl
-  stores-past (suc k) b p = getD-set-other (stores k) k b (set (getD (stores k) k []) j (v k)) [] over ∙ stores-past k b (omega arith)
+  puts-past : (k b : ℕ) → k ≤ b → getD (puts v j out k) b [] ≡ getD out b []
+  puts-past zero b p = refl
+  puts-past (suc k) b p = getD-set-other (puts v j out k) k b (set (getD (puts v j out k) k []) j (v k)) [] over ∙ puts-past k b (omega arith)
     where
       over : b ≡ k → ⊥
       over e = omega arith
 
-  stores-at : (k b : ℕ) → b < k → k ≤ length out → getD (stores k) b [] ≡ set (getD out b []) j (v b)
-  stores-at zero b h p = absurd (not-suc-le-zero h)
-  stores-at (suc k) b h p = go (λ q. stores-at k b q (omega arith)) (ℕ-discrete b k)
+  puts-at : (k b : ℕ) → b < k → k ≤ length out → getD (puts v j out k) b [] ≡ set (getD out b []) j (v b)
+  puts-at zero b h p = absurd (not-suc-le-zero h)
+  puts-at (suc k) b h p = go (λ q. puts-at k b q (omega arith)) (ℕ-discrete b k)
     where
-      go : (b < k → getD (stores k) b [] ≡ set (getD out b []) j (v b)) → Dec (b ≡ k) → getD (stores (suc k)) b [] ≡ set (getD out b []) j (v b)
+      go : (b < k → getD (puts v j out k) b [] ≡ set (getD out b []) j (v b)) → Dec (b ≡ k) → getD (puts v j out (suc k)) b [] ≡ set (getD out b []) j (v b)
       go f (yes e) =
           rw e
-          (getD-set-same (stores k) k (set (getD (stores k) k []) j (v k)) [] (rw (stores-long k) p)
-          ∙ ap (λ (x : List A). set x j (v k)) (stores-past k k (le-refl k)))
-      go f (no e) = getD-set-other (stores k) k b (set (getD (stores k) k []) j (v k)) [] e ∙ f (omega arith)
+          (getD-set-same (puts v j out k) k (set (getD (puts v j out k) k []) j (v k)) [] (rw (puts-long k) p)
+          ∙ ap (λ (x : List A). set x j (v k)) (puts-past k k (le-refl k)))
+      go f (no e) = getD-set-other (puts v j out k) k b (set (getD (puts v j out k) k []) j (v k)) [] e ∙ f (omega arith)
 
 pub record Columns (A : Type 0) (d : A) (n : ℕ) (F : ℕ → ℕ → A) (out : List (List A)) (j : ℕ) : Type 0 where
   pub long : length out ≡ n
@@ -53,10 +49,10 @@ module _ {A : Type 0} {d : A} {n : ℕ} {F : ℕ → ℕ → A} where
     rows = λ b h. filled-start (ap length (getD-replicate n b (replicate n z) [] h) ∙ length-replicate n z);
   }
 
-  pub columns-turn : {out : List (List A)} {j : ℕ} (v : ℕ → A) → Columns A d n F out j → j < n → ((b : ℕ) → b < n → v b ≡ F b j) → Columns A d n F (stores v j out n) (j + 1)
+  pub columns-turn : {out : List (List A)} {j : ℕ} (v : ℕ → A) → Columns A d n F out j → j < n → ((b : ℕ) → b < n → v b ≡ F b j) → Columns A d n F (puts v j out n) (j + 1)
   columns-turn {out} {j} v c l e = record {
-    long = stores-long v j out n ∙ c .long;
-    rows = λ b h. subst (λ (x : List A). Filled A d n (F b) x (j + 1)) (sym (stores-at v j out n b h (le-of-eq (sym (c .long))))) (filled-step (c .rows b h) l (e b h));
+    long = puts-long v j out n ∙ c .long;
+    rows = λ b h. subst (λ (x : List A). Filled A d n (F b) x (j + 1)) (sym (puts-at v j out n b h (le-of-eq (sym (c .long))))) (filled-step (c .rows b h) l (e b h));
   }
 
   pub columns-end : {out : List (List A)} {j : ℕ} → Columns A d n F out j → n ≤ j → out ≡ tab n (λ b. tab n (F b))

@@ -1,9 +1,9 @@
 -- The passes of a tile, as the contracts of src/had_8x8.rt and src/had_4x4.rt cite them; of any side n. A block is the list of its rows. A
 -- tile's coefficients and its number are evc's (specs/Tiles.antt). Assumes nothing.
 use mathlib.Core.Path.{_≡_}
-use Prim.Native.Nat.{ℕ, _≤_}
+use Prim.Native.Nat.{ℕ, zero, suc, _≤_}
 use mathlib.Core.List.{List, []}
-use lib.ListN.{getD}
+use lib.ListN.{getD, set}
 use lib.IntN.{ℤ, pos, _*ℤ_, natAbs}
 use Rattle.integers.specs.Lists.{tab}
 use Rattle.integers.specs.Sum.{sumZ, sumN}
@@ -29,6 +29,14 @@ line n x b = sumZ n (λ i. x i *ℤ sign b i)
 
 unfoldable pub wholeLine : ℕ → List ℤ → List ℤ
 wholeLine n x = tab n (line n (place x))
+
+-- a block with v in row b, column j; and with v 0, .., v (k-1) in column j of its first k rows
+abbrev pub put : {A : Type 0} → ℕ → ℕ → A → List (List A) → List (List A)
+put b j v m = set m b (set (getD m b []) j v)
+
+abbrev pub puts : {A : Type 0} → (ℕ → A) → ℕ → List (List A) → ℕ → List (List A)
+puts v j m zero = m
+puts v j m (suc k) = put k j (v k) (puts v j m k)
 
 -- one pass: each row becomes its coefficients, and the block is turned: row b holds coefficient b of every row
 unfoldable pub passed : ℕ → List (List ℤ) → List (List ℤ)

@@ -2,23 +2,32 @@
 // Differs from the Rust in: the differences are handed in. A pass also turns the block, so that the column pass finds the columns as rows and
 // is the same step. All coefficients' sizes are added, and the DC's taken out again: it has another share.
 ghost use mathlib.Core.Path.{_≡_};
+ghost use mathlib.Core.List.{[], _∷_};
+ghost use Prim.Native.Nat.{_<_};
 ghost use Rattle.evc.specs.Tiles.{tileNumber};
-ghost use Rattle.hadamard.specs.Passes.{entry, RowWithin, BlockWithin, Passed, wholeLine, passed, rowSizes, blockSizes};
+ghost use Rattle.hadamard.specs.Passes.{place, entry, RowWithin, BlockWithin, Passed, put, puts, wholeLine, passed, rowSizes, blockSizes};
 
-// The four coefficients of a line, in two steps of butterflies.
-fn line(x: [i32; 4]) -> [i32; 4]
-    requires { ⌜ RowWithin 262144 x ⌝ }
-    ensures { λ r. ⌜ r ≡ wholeLine 4 x ⌝ }
+// Coefficients into column j.
+fn put_all(out: &mut [[i32; 4]; 4], j: usize, c0: i32, c1: i32, c2: i32, c3: i32)
+    requires { ⌜ j < 4 ⌝ }
+    ensures { λ _. ⌜ now (out .exit) ≡ put 3 j c3 (put 2 j c2 (put 1 j c1 (put 0 j c0 (now (out .entry))))) ⌝ }
 {
-    let x0 = x[0];
-    let x1 = x[1];
-    let x2 = x[2];
-    let x3 = x[3];
+    out[0][j] = c0;
+    out[1][j] = c1;
+    out[2][j] = c2;
+    out[3][j] = c3;
+}
+
+// The four coefficients of a line, in two steps of butterflies, into column j.
+fn line(out: &mut [[i32; 4]; 4], j: usize, x0: i32, x1: i32, x2: i32, x3: i32)
+    requires { ⌜ (j < 4) × RowWithin 262144 (x0 ∷ x1 ∷ x2 ∷ x3 ∷ []) ⌝ }
+    ensures { λ _. ⌜ now (out .exit) ≡ puts (place (wholeLine 4 (x0 ∷ x1 ∷ x2 ∷ x3 ∷ []))) j (now (out .entry)) 4 ⌝ }
+{
     let a0 = x0 + x2;
     let a1 = x1 + x3;
     let a2 = x0 - x2;
     let a3 = x1 - x3;
-    [a0 + a1, a0 - a1, a2 + a3, a2 - a3]
+    put_all(out, j, a0 + a1, a0 - a1, a2 + a3, a2 - a3);
 }
 
 // One pass. Row b of the result holds coefficient b of every row, in the order of the rows.
@@ -29,11 +38,7 @@ fn pass(m: [[i32; 4]; 4]) -> [[i32; 4]; 4]
     let mut out = [[0i32; 4]; 4];
     for j in 0..4 {
         let x = m[j];
-        let c = line(x);
-        out[0][j] = c[0];
-        out[1][j] = c[1];
-        out[2][j] = c[2];
-        out[3][j] = c[3];
+        line(&mut out, j, x[0], x[1], x[2], x[3]);
     }
     out
 }

@@ -2,22 +2,48 @@
 // Differs from the Rust in: the differences are handed in. A pass also turns the block, so that the column pass finds the columns as rows and
 // is the same step. All coefficients' sizes are added, and the DC's taken out again: it has another share.
 ghost use mathlib.Core.Path.{_≡_};
+ghost use mathlib.Core.List.{[], _∷_};
+ghost use Prim.Native.Nat.{_<_};
 ghost use Rattle.evc.specs.Tiles.{tileNumber};
-ghost use Rattle.hadamard.specs.Passes.{entry, RowWithin, BlockWithin, Passed, wholeLine, passed, rowSizes, blockSizes};
+ghost use Rattle.hadamard.specs.Passes.{place, entry, RowWithin, BlockWithin, Passed, put, puts, wholeLine, passed, rowSizes, blockSizes};
 
-// The eight coefficients of a line, in three steps of butterflies.
-fn line(x: [i32; 8]) -> [i32; 8]
-    requires { ⌜ RowWithin 262144 x ⌝ }
-    ensures { λ r. ⌜ r ≡ wholeLine 8 x ⌝ }
+// Coefficients into column j of the upper rows, and of the lower ones.
+fn put_low(out: &mut [[i32; 8]; 8], j: usize, c0: i32, c1: i32, c2: i32, c3: i32)
+    requires { ⌜ j < 8 ⌝ }
+    ensures { λ _. ⌜ now (out .exit) ≡ put 3 j c3 (put 2 j c2 (put 1 j c1 (put 0 j c0 (now (out .entry))))) ⌝ }
 {
-    let x0 = x[0];
-    let x1 = x[1];
-    let x2 = x[2];
-    let x3 = x[3];
-    let x4 = x[4];
-    let x5 = x[5];
-    let x6 = x[6];
-    let x7 = x[7];
+    out[0][j] = c0;
+    out[1][j] = c1;
+    out[2][j] = c2;
+    out[3][j] = c3;
+}
+
+fn put_high(out: &mut [[i32; 8]; 8], j: usize, c4: i32, c5: i32, c6: i32, c7: i32)
+    requires { ⌜ j < 8 ⌝ }
+    ensures { λ _. ⌜ now (out .exit) ≡ put 7 j c7 (put 6 j c6 (put 5 j c5 (put 4 j c4 (now (out .entry))))) ⌝ }
+{
+    out[4][j] = c4;
+    out[5][j] = c5;
+    out[6][j] = c6;
+    out[7][j] = c7;
+}
+
+// The eight coefficients of a line, in three steps of butterflies, into column j.
+fn line(
+    out: &mut [[i32; 8]; 8],
+    j: usize,
+    x0: i32,
+    x1: i32,
+    x2: i32,
+    x3: i32,
+    x4: i32,
+    x5: i32,
+    x6: i32,
+    x7: i32,
+)
+    requires { ⌜ (j < 8) × RowWithin 262144 (x0 ∷ x1 ∷ x2 ∷ x3 ∷ x4 ∷ x5 ∷ x6 ∷ x7 ∷ []) ⌝ }
+    ensures { λ _. ⌜ now (out .exit) ≡ puts (place (wholeLine 8 (x0 ∷ x1 ∷ x2 ∷ x3 ∷ x4 ∷ x5 ∷ x6 ∷ x7 ∷ []))) j (now (out .entry)) 8 ⌝ }
+{
     let a0 = x0 + x4;
     let a1 = x1 + x5;
     let a2 = x2 + x6;
@@ -34,16 +60,8 @@ fn line(x: [i32; 8]) -> [i32; 8]
     let b5 = a5 + a7;
     let b6 = a4 - a6;
     let b7 = a5 - a7;
-    [
-        b0 + b1,
-        b0 - b1,
-        b2 + b3,
-        b2 - b3,
-        b4 + b5,
-        b4 - b5,
-        b6 + b7,
-        b6 - b7,
-    ]
+    put_low(out, j, b0 + b1, b0 - b1, b2 + b3, b2 - b3);
+    put_high(out, j, b4 + b5, b4 - b5, b6 + b7, b6 - b7);
 }
 
 // One pass. Row b of the result holds coefficient b of every row, in the order of the rows.
@@ -54,15 +72,7 @@ fn pass(m: [[i32; 8]; 8]) -> [[i32; 8]; 8]
     let mut out = [[0i32; 8]; 8];
     for j in 0..8 {
         let x = m[j];
-        let c = line(x);
-        out[0][j] = c[0];
-        out[1][j] = c[1];
-        out[2][j] = c[2];
-        out[3][j] = c[3];
-        out[4][j] = c[4];
-        out[5][j] = c[5];
-        out[6][j] = c[6];
-        out[7][j] = c[7];
+        line(&mut out, j, x[0], x[1], x[2], x[3], x[4], x[5], x[6], x[7]);
     }
     out
 }

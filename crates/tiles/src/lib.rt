@@ -1,5 +1,5 @@
 // What SATD decides of its tiles: their side, and a tile's number from the sizes of its coefficients. Document 01, "Distortion".
-// Each is total. 64 bits hold the sum of any sizes.
+// 64 bits hold the sum of any sizes, so that every call has its answer.
 ghost use mathlib.Core.Path.{_≡_};
 ghost use Prim.Native.Nat.{_+_, _/_, _≤_};
 ghost use Rattle.evc.specs.Tiles as of;

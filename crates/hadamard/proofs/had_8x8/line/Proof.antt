@@ -1,14 +1,15 @@
 -- `hadamard::had_8x8::line` meets its contract: each local is an expression of the line's numbers. That none wraps is a test of bounds,
 -- that the results are the coefficients one of normal forms. Written by tools/passes.py. Assumes nothing.
+use mathlib.Core.Path.{ap, _∙_}
 use mathlib.Core.List.{List, [], _∷_, map}
 use lib.Count.{ones, onesIn}
-use lib.Dec.{lit<}
 use lib.IntN.{ℤ, pow, one}
 use mir.Syntax.{w32}
-use Rattle.integers.proofs.Expr.{Ex, var, add, sub, stored}
+use borrow.Author.Needs.{needs}
+use Rattle.integers.proofs.Expr.{Ex, var, add, sub, stored, raw, machines}
 use Rattle.evc.specs.Tiles.{sign}
-use Rattle.hadamard.specs.Passes.{RowWithin}
-use Rattle.hadamard.proofs.Lines.{fits, line-is}
+use Rattle.hadamard.specs.Passes.{place, RowWithin, put, puts}
+use Rattle.hadamard.proofs.Lines.{known, fits, line-is}
 use Rattle.hadamard.proofs.had_8x8.line.Statement.{statement}
 use Rattle.hadamard.proofs.had_8x8.line.Tie as tie
 
@@ -63,35 +64,11 @@ b7 = sub a5 a7
 abbrev results : List Ex
 results = map (stored w32) (add b0 b1 ∷ sub b0 b1 ∷ add b2 b3 ∷ sub b2 b3 ∷ add b4 b5 ∷ sub b4 b5 ∷ add b6 b7 ∷ sub b6 b7 ∷ [])
 
-abbrev input : tie.After-x7 → List ℤ
-input c = c .before .before .before .before .before .before .before .before .args .t1
+abbrev input : tie.Start → List ℤ
+input s = s .args .x0 ∷ s .args .x1 ∷ s .args .x2 ∷ s .args .x3 ∷ s .args .x4 ∷ s .args .x5 ∷ s .args .x6 ∷ s .args .x7 ∷ []
 
-small : (c : tie.After-x7) → RowWithin 262144 (input c)
-small c = c .before .before .before .before .before .before .before .before .pre
-
-array-copy-out-x0 : tie.Need-array-copy-out-x0
-array-copy-out-x0 c = lit< tt
-
-array-copy-out-x1 : tie.Need-array-copy-out-x1
-array-copy-out-x1 c = lit< tt
-
-array-copy-out-x2 : tie.Need-array-copy-out-x2
-array-copy-out-x2 c = lit< tt
-
-array-copy-out-x3 : tie.Need-array-copy-out-x3
-array-copy-out-x3 c = lit< tt
-
-array-copy-out-x4 : tie.Need-array-copy-out-x4
-array-copy-out-x4 c = lit< tt
-
-array-copy-out-x5 : tie.Need-array-copy-out-x5
-array-copy-out-x5 c = lit< tt
-
-array-copy-out-x6 : tie.Need-array-copy-out-x6
-array-copy-out-x6 c = lit< tt
-
-array-copy-out-x7 : tie.Need-array-copy-out-x7
-array-copy-out-x7 c = lit< tt
+small : (s : tie.Start) → RowWithin 262144 (input s)
+small s = s .pre .1
 
 add-a0 : tie.Need-add-a0
 add-a0 c = fits (input c) (small c) a0 tt
@@ -141,46 +118,51 @@ sub-b6 c = fits (input c) (small c) b6 tt
 sub-b7 : tie.Need-sub-b7
 sub-b7 c = fits (input c) (small c) b7 tt
 
-add-t29 : tie.Need-add-t29
-add-t29 c = fits (input c) (small c) (add b0 b1) tt
+add-put-low : tie.Need-add-put-low
+add-put-low c = fits (input (c .before)) (small (c .before)) (add b0 b1) tt
 
-sub-t44 : tie.Need-sub-t44
-sub-t44 c = fits (input c) (small c) (sub b0 b1) tt
+sub-put-low : tie.Need-sub-put-low
+sub-put-low c = fits (input (c .before)) (small (c .before)) (sub b0 b1) tt
 
-add-t45 : tie.Need-add-t45
-add-t45 c = fits (input c) (small c) (add b2 b3) tt
+add-put-low-2 : tie.Need-add-put-low-2
+add-put-low-2 c = fits (input (c .before)) (small (c .before)) (add b2 b3) tt
 
-sub-t46 : tie.Need-sub-t46
-sub-t46 c = fits (input c) (small c) (sub b2 b3) tt
+sub-put-low-2 : tie.Need-sub-put-low-2
+sub-put-low-2 c = fits (input (c .before)) (small (c .before)) (sub b2 b3) tt
 
-add-t47 : tie.Need-add-t47
-add-t47 c = fits (input c) (small c) (add b4 b5) tt
+put-low-requires : tie.Need-put-low-requires
+put-low-requires c κs = search needs
 
-sub-t48 : tie.Need-sub-t48
-sub-t48 c = fits (input c) (small c) (sub b4 b5) tt
+add-put-high : tie.Need-add-put-high
+add-put-high c = fits (input (c .before .before .before)) (small (c .before .before .before)) (add b4 b5) tt
 
-add-t49 : tie.Need-add-t49
-add-t49 c = fits (input c) (small c) (add b6 b7) tt
+sub-put-high : tie.Need-sub-put-high
+sub-put-high c = fits (input (c .before .before .before)) (small (c .before .before .before)) (sub b4 b5) tt
 
-sub-t50 : tie.Need-sub-t50
-sub-t50 c = fits (input c) (small c) (sub b6 b7) tt
+add-put-high-2 : tie.Need-add-put-high-2
+add-put-high-2 c = fits (input (c .before .before .before)) (small (c .before .before .before)) (add b6 b7) tt
+
+sub-put-high-2 : tie.Need-sub-put-high-2
+sub-put-high-2 c = fits (input (c .before .before .before)) (small (c .before .before .before)) (sub b6 b7) tt
+
+put-high-requires : tie.Need-put-high-requires
+put-high-requires c κs = search needs
+
+abbrev made : tie.Start → List ℤ
+made s = map (raw (machines (known (input s) (small s)))) results
 
 returns : tie.Need-returns
 unfolding sign ones onesIn pow one
-returns c = line-is (input c) (small c) results tt tt
+returns c =
+    let s = c .before .before .before .before in
+    c .put-high .ensures
+    ∙ ap (λ (m : List (List ℤ)). put 7 (s .args .j) (place (made s) 7) (put 6 (s .args .j) (place (made s) 6) (put 5 (s .args .j) (place (made s) 5) (put 4 (s .args .j) (place (made s) 4) m)))) (c .before .before .put-low .ensures)
+    ∙ ap (λ (l : List ℤ). puts (place l) (s .args .j) (s .args .out .now) 8) (line-is (input s) (small s) results tt tt)
 
 pub line-spec : {M : Type 1} → statement M
 line-spec =
     tie.close
     (tie.spec
-    array-copy-out-x0
-    array-copy-out-x1
-    array-copy-out-x2
-    array-copy-out-x3
-    array-copy-out-x4
-    array-copy-out-x5
-    array-copy-out-x6
-    array-copy-out-x7
     add-a0
     add-a1
     add-a2
@@ -197,12 +179,14 @@ line-spec =
     add-b5
     sub-b6
     sub-b7
-    add-t29
-    sub-t44
-    add-t45
-    sub-t46
-    add-t47
-    sub-t48
-    add-t49
-    sub-t50
+    add-put-low
+    sub-put-low
+    add-put-low-2
+    sub-put-low-2
+    put-low-requires
+    add-put-high
+    sub-put-high
+    add-put-high-2
+    sub-put-high-2
+    put-high-requires
     returns)
