@@ -44,7 +44,7 @@ fn satd(n: &Numbers, org: &[u16], cur: &[u16]) -> Said {
 }
 
 fn ssd_16b(n: &Numbers, org: &[u16], cur: &[u16]) -> Said {
-    let a = sad::evce_ssd_16b(
+    let a = ssd::evce_ssd_16b(
         org,
         size(n, 0),
         size(n, 1),
@@ -60,7 +60,7 @@ fn ssd_16b(n: &Numbers, org: &[u16], cur: &[u16]) -> Said {
 }
 
 fn ssd_16i(n: &Numbers, one: &[u16], two: &[u16]) -> Said {
-    let a = sad::evce_ssd_16i(
+    let a = ssd::evce_ssd_16i(
         one,
         size(n, 0),
         size(n, 1),
@@ -100,7 +100,7 @@ fn sad_16b(n: &Numbers, org: &[u16], reference: &[u16]) -> Said {
 }
 
 fn sad_bi_16b(n: &Numbers, bi: &[i16], reference: &[u16]) -> Said {
-    let a = sad::evce_sad_bi_16b(
+    let a = bi::evce_sad_bi_16b(
         bi,
         reference,
         size(n, 0),
@@ -132,7 +132,7 @@ fn sad_16i(n: &Numbers, org: &[u16], pred: &[u16]) -> Said {
 }
 
 fn sad_bi_16i(n: &Numbers, bi: &[i16], pred: &[u16]) -> Said {
-    let a = sad::evce_sad_bi_16i(bi, pred, size(n, 0), size(n, 1), byte(n, 2));
+    let a = bi::evce_sad_bi_16i(bi, pred, size(n, 0), size(n, 1), byte(n, 2));
     answer::of_distortion(a)
 }
 
