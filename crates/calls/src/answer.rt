@@ -1,7 +1,7 @@
 // Answers in writing: document 01's number and name, the value, and the contents of a buffer.
 use crate::out::Out;
 use crate::out::byte;
-use crate::out::number;
+use crate::out::row;
 use crate::out::signed;
 use crate::out::text;
 use crate::sign::wide_16;
@@ -14,117 +14,152 @@ use evc::Scale;
 use evc::SquaredDistortion;
 use evc::SubAnswer;
 
-fn refusal(out: &mut Out, used: usize, r: Refusal) -> usize {
-    match r {
-        Refusal::Size => text(out, used, b"1 SIZE"),
-        Refusal::Qp => text(out, used, b"2 QP"),
-        Refusal::Shift => text(out, used, b"3 SHIFT"),
-        Refusal::Depth => text(out, used, b"4 DEPTH"),
-        Refusal::Area => text(out, used, b"5 AREA"),
-        Refusal::Overlap => text(out, used, b"6 OVERLAP"),
-        Refusal::Sample => text(out, used, b"7 SAMPLE"),
+// What a call answers: the digit of a refusal and a component's letter, or 0 and whether a value came, and the value.
+pub(crate) struct Said {
+    number: u8,
+    component: u8,
+    valued: bool,
+    value: i64,
+}
+
+fn done() -> Said {
+    Said {
+        number: b'0',
+        component: b' ',
+        valued: false,
+        value: 0,
     }
 }
 
-fn component(out: &mut Out, used: usize, c: Component) -> usize {
+fn value(v: i64) -> Said {
+    Said {
+        number: b'0',
+        component: b' ',
+        valued: true,
+        value: v,
+    }
+}
+
+fn refused(r: Refusal, component: u8) -> Said {
+    let number = match r {
+        Refusal::Size => b'1',
+        Refusal::Qp => b'2',
+        Refusal::Shift => b'3',
+        Refusal::Depth => b'4',
+        Refusal::Area => b'5',
+        Refusal::Overlap => b'6',
+        Refusal::Sample => b'7',
+    };
+    Said {
+        number,
+        component,
+        valued: false,
+        value: 0,
+    }
+}
+
+fn letter(c: Component) -> u8 {
     match c {
-        Component::Y => text(out, used, b" Y"),
-        Component::U => text(out, used, b" U"),
-        Component::V => text(out, used, b" V"),
+        Component::Y => b'Y',
+        Component::U => b'U',
+        Component::V => b'V',
     }
 }
 
-fn value(out: &mut Out, used: usize, v: i64) -> usize {
-    let n = text(out, used, b"0 value ");
+pub(crate) fn of_scale(a: Scale) -> Said {
+    match a {
+        Scale::Value(v) => value(wide_32(v)),
+        Scale::Refused(r) => refused(r, b' '),
+    }
+}
+
+pub(crate) fn of_distortion(a: Distortion) -> Said {
+    match a {
+        Distortion::Value(v) => value(v as i64),
+        Distortion::Refused(r) => refused(r, b' '),
+    }
+}
+
+pub(crate) fn of_squared(a: SquaredDistortion) -> Said {
+    match a {
+        SquaredDistortion::Value(v) => value(v),
+        SquaredDistortion::Refused(r) => refused(r, b' '),
+    }
+}
+
+pub(crate) fn of_call(a: Answer) -> Said {
+    match a {
+        Answer::Done => done(),
+        Answer::Refused(r) => refused(r, b' '),
+    }
+}
+
+pub(crate) fn of_sub_block(a: SubAnswer) -> Said {
+    match a {
+        SubAnswer::Done => done(),
+        SubAnswer::Refused(c, r) => refused(r, letter(c)),
+    }
+}
+
+// The words for a refusal, or for 0.
+fn words_of(out: &mut Out, used: usize, number: u8) -> usize {
+    row(
+        out,
+        used,
+        b"0 done
+1 SIZE
+2 QP
+3 SHIFT
+4 DEPTH
+5 AREA
+6 OVERLAP
+7 SAMPLE",
+        number,
+        2,
+    )
+}
+
+pub(crate) fn say(out: &mut Out, used: usize, s: Said) -> usize {
+    let n = byte(out, used, s.number);
+    if s.valued {
+        let m = text(out, n, b" value ");
+        return signed(out, m, s.value);
+    }
+    let m = words_of(out, n, s.number);
+    if s.component == b' ' {
+        return m;
+    }
+    item(out, m, s.component)
+}
+
+// A blank and a letter, or a number.
+fn item(out: &mut Out, used: usize, letter: u8) -> usize {
+    let n = byte(out, used, b' ');
+    byte(out, n, letter)
+}
+
+fn number(out: &mut Out, used: usize, v: i64) -> usize {
+    let n = byte(out, used, b' ');
     signed(out, n, v)
 }
 
-pub(crate) fn of_scale(out: &mut Out, used: usize, a: Scale) -> usize {
-    match a {
-        Scale::Value(v) => {
-            let n = value(out, used, wide_32(v));
-            byte(out, n, b'\n')
-        }
-        Scale::Refused(r) => {
-            let n = refusal(out, used, r);
-            byte(out, n, b'\n')
-        }
-    }
-}
-
-pub(crate) fn of_distortion(out: &mut Out, used: usize, a: Distortion) -> usize {
-    match a {
-        Distortion::Value(v) => {
-            let n = text(out, used, b"0 value ");
-            let m = number(out, n, v as u64);
-            byte(out, m, b'\n')
-        }
-        Distortion::Refused(r) => {
-            let n = refusal(out, used, r);
-            byte(out, n, b'\n')
-        }
-    }
-}
-
-pub(crate) fn of_squared(out: &mut Out, used: usize, a: SquaredDistortion) -> usize {
-    match a {
-        SquaredDistortion::Value(v) => {
-            let n = value(out, used, v);
-            byte(out, n, b'\n')
-        }
-        SquaredDistortion::Refused(r) => {
-            let n = refusal(out, used, r);
-            byte(out, n, b'\n')
-        }
-    }
-}
-
-fn of_call(out: &mut Out, used: usize, a: Answer) -> usize {
-    match a {
-        Answer::Done => text(out, used, b"0 done"),
-        Answer::Refused(r) => refusal(out, used, r),
-    }
-}
-
-pub(crate) fn of_sub_block(out: &mut Out, used: usize, a: SubAnswer) -> usize {
-    match a {
-        SubAnswer::Done => text(out, used, b"0 done"),
-        SubAnswer::Refused(c, r) => {
-            let n = refusal(out, used, r);
-            component(out, n, c)
-        }
-    }
-}
-
+// The final contents of a buffer that a call may write.
 pub(crate) fn shorts(out: &mut Out, used: usize, s: &[i16]) -> usize {
-    let mut n = text(out, used, b" |");
+    let mut n = item(out, used, b'|');
     let mut i = 0;
     while i < s.len() {
-        n = byte(out, n, b' ');
-        n = signed(out, n, wide_16(s[i]));
+        n = number(out, n, wide_16(s[i]));
         i += 1;
     }
-    byte(out, n, b'\n')
+    n
 }
 
-fn words(out: &mut Out, used: usize, s: &[i32]) -> usize {
-    let mut n = text(out, used, b" |");
+pub(crate) fn words(out: &mut Out, used: usize, s: &[i32]) -> usize {
+    let mut n = item(out, used, b'|');
     let mut i = 0;
     while i < s.len() {
-        n = byte(out, n, b' ');
-        n = signed(out, n, wide_32(s[i]));
+        n = number(out, n, wide_32(s[i]));
         i += 1;
     }
-    byte(out, n, b'\n')
-}
-
-// The answer of a call that may write a buffer, with what the buffer then holds.
-pub(crate) fn with_shorts(out: &mut Out, used: usize, a: Answer, s: &[i16]) -> usize {
-    let n = of_call(out, used, a);
-    shorts(out, n, s)
-}
-
-pub(crate) fn with_words(out: &mut Out, used: usize, a: Answer, s: &[i32]) -> usize {
-    let n = of_call(out, used, a);
-    words(out, n, s)
+    n
 }

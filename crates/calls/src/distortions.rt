@@ -1,321 +1,206 @@
 // DIFF, SATD, the SSDs and the SADs.
-ghost use Prim.Native.Nat.{_≤_};
-ghost use lib.ListN.{length};
 use crate::answer;
-use crate::buffer;
-use crate::cursor::Cursor;
-use crate::cursor::is_good;
-use crate::groups::Motion;
-use crate::groups::Pair;
-use crate::groups::Plane;
-use crate::groups::Sides;
-use crate::groups::block_at;
-use crate::groups::motion_at;
-use crate::groups::pair_at;
-use crate::groups::plane_at;
-use crate::groups::sides_at;
-use crate::number;
+use crate::answer::Said;
+use crate::numbers;
+use crate::numbers::Numbers;
+use crate::numbers::ONE;
+use crate::numbers::TWO;
+use crate::numbers::byte;
+use crate::numbers::short;
+use crate::numbers::size;
 use crate::out::Out;
-use crate::said::Said;
-use evc::Distortion;
 
-// The lengths of two blocks, and where reading goes on.
-struct Blocks {
-    one: usize,
-    two: usize,
-    next: Cursor,
-}
-
-fn blocks_at(line: &[u8], c: Cursor, one: &mut [u16], two: &mut [u16]) -> Blocks
-    ensures { λ r. ⌜ (r .one ≤ length (now (one .exit))) × (r .two ≤ length (now (two .exit))) ⌝ }
-{
-    let n = buffer::samples(line, c, one);
-    let m = buffer::samples(line, n.next, two);
-    let next = m.next;
-    Blocks {
-        one: n.value,
-        two: m.value,
-        next,
-    }
-}
-
-pub(crate) fn diff(
-    line: &[u8],
-    c: Cursor,
-    org: &mut [u16],
-    cur: &mut [u16],
-    diff: &mut [i16],
-    out: &mut Out,
-    used: usize,
-) -> Said {
-    let b = block_at(line, c);
-    let n = blocks_at(line, b.next, org, cur);
-    let l = buffer::shorts(line, n.next, diff);
-    let i = n.one;
-    let j = n.two;
-    let k = l.value;
-    let end = number::end(line, l.next);
-    if !is_good(end) {
-        return Said { used, end };
-    }
+fn diff(n: &Numbers, org: &[u16], cur: &[u16], diff: &mut [i16]) -> Said {
     let a = diff::evce_diff_16b(
-        &org[0..i],
-        b.width,
-        b.height,
-        b.stride,
-        b.x,
-        b.y,
-        b.w,
-        b.h,
-        &cur[0..j],
-        b.depth,
-        &mut diff[0..k],
+        org,
+        size(n, 0),
+        size(n, 1),
+        size(n, 2),
+        size(n, 3),
+        size(n, 4),
+        size(n, 5),
+        size(n, 6),
+        cur,
+        byte(n, 7),
+        diff,
     );
-    let used = answer::with_shorts(out, used, a, &diff[0..k]);
-    Said { used, end }
+    answer::of_call(a)
 }
 
-pub(crate) fn satd(
-    line: &[u8],
-    c: Cursor,
-    org: &mut [u16],
-    cur: &mut [u16],
-    out: &mut Out,
-    used: usize,
-) -> Said {
-    let b = block_at(line, c);
-    let n = blocks_at(line, b.next, org, cur);
-    let i = n.one;
-    let j = n.two;
-    let end = number::end(line, n.next);
-    if !is_good(end) {
-        return Said { used, end };
-    }
+fn satd(n: &Numbers, org: &[u16], cur: &[u16]) -> Said {
     let a = diff::evce_satd_16b(
-        &org[0..i],
-        b.width,
-        b.height,
-        b.stride,
-        b.x,
-        b.y,
-        b.w,
-        b.h,
-        &cur[0..j],
-        b.depth,
+        org,
+        size(n, 0),
+        size(n, 1),
+        size(n, 2),
+        size(n, 3),
+        size(n, 4),
+        size(n, 5),
+        size(n, 6),
+        cur,
+        byte(n, 7),
     );
-    let used = answer::of_distortion(out, used, a);
-    Said { used, end }
+    answer::of_distortion(a)
 }
 
-pub(crate) fn ssd_16b(
-    line: &[u8],
-    c: Cursor,
-    org: &mut [u16],
-    cur: &mut [u16],
+fn ssd_16b(n: &Numbers, org: &[u16], cur: &[u16]) -> Said {
+    let a = sad::evce_ssd_16b(
+        org,
+        size(n, 0),
+        size(n, 1),
+        size(n, 2),
+        size(n, 3),
+        size(n, 4),
+        size(n, 5),
+        size(n, 6),
+        cur,
+        byte(n, 7),
+    );
+    answer::of_squared(a)
+}
+
+fn ssd_16i(n: &Numbers, one: &[u16], two: &[u16]) -> Said {
+    let a = sad::evce_ssd_16i(
+        one,
+        size(n, 0),
+        size(n, 1),
+        size(n, 2),
+        two,
+        size(n, 3),
+        size(n, 4),
+        size(n, 5),
+        short(n, 6),
+        short(n, 7),
+        size(n, 8),
+        size(n, 9),
+        byte(n, 10),
+    );
+    answer::of_squared(a)
+}
+
+fn sad_16b(n: &Numbers, org: &[u16], reference: &[u16]) -> Said {
+    let a = sad::evce_sad_16b(
+        org,
+        size(n, 0),
+        size(n, 1),
+        size(n, 2),
+        size(n, 3),
+        size(n, 4),
+        reference,
+        size(n, 5),
+        size(n, 6),
+        size(n, 7),
+        short(n, 8),
+        short(n, 9),
+        size(n, 10),
+        size(n, 11),
+        byte(n, 12),
+    );
+    answer::of_distortion(a)
+}
+
+fn sad_bi_16b(n: &Numbers, bi: &[i16], reference: &[u16]) -> Said {
+    let a = sad::evce_sad_bi_16b(
+        bi,
+        reference,
+        size(n, 0),
+        size(n, 1),
+        size(n, 2),
+        short(n, 3),
+        short(n, 4),
+        size(n, 5),
+        size(n, 6),
+        byte(n, 7),
+    );
+    answer::of_distortion(a)
+}
+
+fn sad_16i(n: &Numbers, org: &[u16], pred: &[u16]) -> Said {
+    let a = sad::evce_sad_16i(
+        org,
+        size(n, 0),
+        size(n, 1),
+        size(n, 2),
+        size(n, 3),
+        size(n, 4),
+        size(n, 5),
+        size(n, 6),
+        pred,
+        byte(n, 7),
+    );
+    answer::of_distortion(a)
+}
+
+fn sad_bi_16i(n: &Numbers, bi: &[i16], pred: &[u16]) -> Said {
+    let a = sad::evce_sad_bi_16i(bi, pred, size(n, 0), size(n, 1), byte(n, 2));
+    answer::of_distortion(a)
+}
+
+fn called(tag: u8, n: &Numbers, shorts: &mut [i16], one: &[u16], two: &[u16]) -> Said {
+    match tag {
+        b'g' => diff(n, one, two, shorts),
+        b'h' => satd(n, one, two),
+        b'i' => ssd_16b(n, one, two),
+        b'j' => ssd_16i(n, one, two),
+        b'k' => sad_16b(n, one, two),
+        b'l' => sad_bi_16b(n, shorts, one),
+        b'm' => sad_16i(n, one, two),
+        _ => sad_bi_16i(n, shorts, one),
+    }
+}
+
+// Calls, and says what came.
+fn answered(
+    tag: u8,
+    n: &Numbers,
+    shorts: &mut [i16],
+    one: &[u16],
+    two: &[u16],
     out: &mut Out,
     used: usize,
-) -> Said {
-    let b = block_at(line, c);
-    let n = blocks_at(line, b.next, org, cur);
-    let i = n.one;
-    let j = n.two;
-    let end = number::end(line, n.next);
-    if !is_good(end) {
-        return Said { used, end };
+) -> usize {
+    let s = called(tag, n, shorts, one, two);
+    let m = answer::say(out, used, s);
+    if tag == b'g' {
+        return answer::shorts(out, m, shorts);
     }
-    let a = sad::evce_ssd_16b(
-        &org[0..i],
-        b.width,
-        b.height,
-        b.stride,
-        b.x,
-        b.y,
-        b.w,
-        b.h,
-        &cur[0..j],
-        b.depth,
-    );
-    let used = answer::of_squared(out, used, a);
-    Said { used, end }
+    m
 }
 
-pub(crate) fn ssd_16i(
-    line: &[u8],
-    c: Cursor,
-    one: &mut [u16],
+// The buffers one by one: with all of them in one function, its check is many times as long.
+fn with_two(
+    tag: u8,
+    n: &Numbers,
+    shorts: &mut [i16],
+    one: &[u16],
     two: &mut [u16],
     out: &mut Out,
     used: usize,
-) -> Said {
-    let p = plane_at(line, c);
-    let q = plane_at(line, p.next);
-    let mv = motion_at(line, q.next);
-    let side = sides_at(line, mv.next);
-    let n = blocks_at(line, side.next, one, two);
-    let i = n.one;
-    let j = n.two;
-    let end = number::end(line, n.next);
-    if !is_good(end) {
-        return Said { used, end };
-    }
-    let a = sad::evce_ssd_16i(
-        &one[0..i],
-        p.width,
-        p.height,
-        p.stride,
-        &two[0..j],
-        q.width,
-        q.height,
-        q.stride,
-        mv.x,
-        mv.y,
-        side.w,
-        side.h,
-        side.depth,
-    );
-    let used = answer::of_squared(out, used, a);
-    Said { used, end }
+) -> usize {
+    let j = numbers::samples(n, TWO, two);
+    answered(tag, n, shorts, one, &two[0..j], out, used)
 }
 
-// The call by itself: with all of a line's numbers in one function, its check is many times as long.
-fn sad_16b_of(
-    org: &[u16],
-    p: Plane,
-    at: Pair,
-    reference: &[u16],
-    q: Plane,
-    mv: Motion,
-    side: Sides,
-) -> Distortion {
-    sad::evce_sad_16b(
-        org,
-        p.width,
-        p.height,
-        p.stride,
-        at.x,
-        at.y,
-        reference,
-        q.width,
-        q.height,
-        q.stride,
-        mv.x,
-        mv.y,
-        side.w,
-        side.h,
-        side.depth,
-    )
-}
-
-pub(crate) fn sad_16b(
-    line: &[u8],
-    c: Cursor,
-    org: &mut [u16],
-    reference: &mut [u16],
+fn with_one(
+    tag: u8,
+    n: &Numbers,
+    shorts: &mut [i16],
+    one: &mut [u16],
     out: &mut Out,
     used: usize,
-) -> Said {
-    let p = plane_at(line, c);
-    let at = pair_at(line, p.next);
-    let q = plane_at(line, at.next);
-    let mv = motion_at(line, q.next);
-    let side = sides_at(line, mv.next);
-    let n = blocks_at(line, side.next, org, reference);
-    let i = n.one;
-    let j = n.two;
-    let end = number::end(line, n.next);
-    if !is_good(end) {
-        return Said { used, end };
-    }
-    let a = sad_16b_of(&org[0..i], p, at, &reference[0..j], q, mv, side);
-    let used = answer::of_distortion(out, used, a);
-    Said { used, end }
+) -> usize {
+    let mut two = [0u16; 16384];
+    let i = numbers::samples(n, ONE, one);
+    with_two(tag, n, shorts, &one[0..i], &mut two, out, used)
 }
 
-pub(crate) fn sad_bi_16b(
-    line: &[u8],
-    c: Cursor,
-    bi: &mut [i16],
-    reference: &mut [u16],
-    out: &mut Out,
-    used: usize,
-) -> Said {
-    let p = plane_at(line, c);
-    let mv = motion_at(line, p.next);
-    let side = sides_at(line, mv.next);
-    let n = buffer::shorts(line, side.next, bi);
-    let m = buffer::samples(line, n.next, reference);
-    let i = n.value;
-    let j = m.value;
-    let end = number::end(line, m.next);
-    if !is_good(end) {
-        return Said { used, end };
-    }
-    let a = sad::evce_sad_bi_16b(
-        &bi[0..i],
-        &reference[0..j],
-        p.width,
-        p.height,
-        p.stride,
-        mv.x,
-        mv.y,
-        side.w,
-        side.h,
-        side.depth,
-    );
-    let used = answer::of_distortion(out, used, a);
-    Said { used, end }
+fn with_shorts(tag: u8, n: &Numbers, shorts: &mut [i16], out: &mut Out, used: usize) -> usize {
+    let mut one = [0u16; 16384];
+    let h = numbers::shorts(n, shorts);
+    with_one(tag, n, &mut shorts[0..h], &mut one, out, used)
 }
 
-pub(crate) fn sad_16i(
-    line: &[u8],
-    c: Cursor,
-    org: &mut [u16],
-    pred: &mut [u16],
-    out: &mut Out,
-    used: usize,
-) -> Said {
-    let b = block_at(line, c);
-    let n = blocks_at(line, b.next, org, pred);
-    let i = n.one;
-    let j = n.two;
-    let end = number::end(line, n.next);
-    if !is_good(end) {
-        return Said { used, end };
-    }
-    let a = sad::evce_sad_16i(
-        &org[0..i],
-        b.width,
-        b.height,
-        b.stride,
-        b.x,
-        b.y,
-        b.w,
-        b.h,
-        &pred[0..j],
-        b.depth,
-    );
-    let used = answer::of_distortion(out, used, a);
-    Said { used, end }
-}
-
-pub(crate) fn sad_bi_16i(
-    line: &[u8],
-    c: Cursor,
-    bi: &mut [i16],
-    pred: &mut [u16],
-    out: &mut Out,
-    used: usize,
-) -> Said {
-    let side = sides_at(line, c);
-    let n = buffer::shorts(line, side.next, bi);
-    let m = buffer::samples(line, n.next, pred);
-    let i = n.value;
-    let j = m.value;
-    let end = number::end(line, m.next);
-    if !is_good(end) {
-        return Said { used, end };
-    }
-    let a = sad::evce_sad_bi_16i(&bi[0..i], &pred[0..j], side.w, side.h, side.depth);
-    let used = answer::of_distortion(out, used, a);
-    Said { used, end }
+pub(crate) fn compare(tag: u8, n: &Numbers, out: &mut Out, used: usize) -> usize {
+    let mut shorts = [0i16; 16384];
+    with_shorts(tag, n, &mut shorts, out, used)
 }

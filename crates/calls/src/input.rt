@@ -1,217 +1,213 @@
 // The input, line by line, through a buffer that holds the longest line.
-ghost use Prim.Native.Nat.{_+_, _≤_};
-ghost use lib.ListN.{length};
-ghost use Rattle.calls.specs.Window.{Inside};
 use crate::fault;
 use crate::line;
 use crate::out;
 use crate::out::Out;
-use crate::usage;
+use crate::token::byte_at;
 
-// What is not yet taken stands in the buffer from `from` to `end`. `line` is the number of the line that starts there, `used` how much of the
-// output is used. `long`: the line's start was left out; `ended`: there is no more to read; `done`: all is taken; `empty`: nothing was read so far.
-pub(crate) struct State {
-    pub(crate) from: usize,
-    pub(crate) end: usize,
-    pub(crate) line: u64,
-    pub(crate) used: usize,
-    pub(crate) long: bool,
-    pub(crate) ended: bool,
-    pub(crate) done: bool,
-    pub(crate) empty: bool,
+type Text = [u8; 524288];
+
+// The buffer's first `kept` bytes are not yet taken: the start of the line with the number `line`. `used` is how much of the output is used. `long`:
+// that line's start was left out; `ended`: there is no more to read; `empty`: nothing was read so far.
+struct State {
+    kept: usize,
+    line: u64,
+    used: usize,
+    long: bool,
+    ended: bool,
+    empty: bool,
 }
 
-// What one read gave.
+// Where what was read ends.
 struct Got {
-    count: usize,
+    end: usize,
     failed: bool,
 }
 
-// The first line end from `from` on, or `end`.
-fn line_end(text: &[u8], from: usize, end: usize) -> usize
-    requires { ⌜ Inside from end (length (now text)) ⌝ }
-    ensures { λ r. ⌜ Inside from r end ⌝ }
-{
-    let mut i = from;
-    while i < end {
-        if text[i] == b'\n' {
-            return i;
-        }
-        i += 1;
-    }
-    i
-}
-
-// Moves what stands from `from` to `end` to the start.
-fn move_down(text: &mut [u8], from: usize, end: usize)
-    requires { ⌜ Inside from end (length (now text)) ⌝ }
-{
-    let mut i = from;
-    while i < end {
-        text[i - from] = text[i];
-        i += 1;
-    }
+// Where the first line starts that has no end yet, its number, whether its start was left out, and how much of the output is used.
+struct Took {
+    from: usize,
+    line: u64,
+    long: bool,
+    used: usize,
 }
 
 fn after(line: u64) -> u64 {
     if line < u64::MAX { line + 1 } else { line }
 }
 
-// Reads on behind the first `kept` bytes, once, and answers how many came. A read that fails is told, and is the end.
-fn read_on(fd: i32, text: &mut [u8], kept: usize) -> Got
-    requires { ⌜ kept ≤ length (now text) ⌝ }
-    ensures { λ r. ⌜ kept + r .count ≤ length (now (text .exit)) ⌝ }
-{
+// Reads on behind the first `kept` bytes, once. A read that fails is the end.
+fn read_on(fd: i32, text: &mut [u8], kept: usize) -> Got {
+    if text.len() < kept {
+        return Got {
+            end: 0,
+            failed: true,
+        };
+    }
     let part = &mut text[kept..];
     let got = libc::read(fd, part);
     let count = io::count(got, part);
     Got {
-        count,
+        end: kept + count,
         failed: got < 0,
     }
 }
 
-// Makes room and reads on. A line that fills the buffer is told and left out.
-fn refilled(fd: i32, name: &[u8], text: &mut [u8], s: State, out: &mut Out) -> State
-    requires { ⌜ Inside (s .from) (s .end) (length (now text)) ⌝ }
-    ensures { λ r. ⌜ Inside (r .from) (r .end) (length (now (text .exit))) ⌝ }
-{
-    let from = s.from;
-    let end = s.end;
-    move_down(text, from, end);
-    let kept = end - from;
-    if kept == text.len() {
-        let used = if s.long {
-            s.used
-        } else {
-            fault::long(out, s.used, name, s.line, kept)
-        };
-        return State {
-            from: 0,
-            end: 0,
-            line: s.line,
-            used,
-            long: true,
-            ended: s.ended,
-            done: s.done,
-            empty: false,
-        };
+// Answers the line that stands from `from` to `end`.
+fn between(
+    text: &[u8],
+    from: usize,
+    end: usize,
+    name: &[u8],
+    row: u64,
+    out: &mut Out,
+    used: usize,
+) -> usize {
+    if from <= end {
+        if end <= text.len() {
+            return line::answered(&text[from..end], name, row, out, used);
+        }
     }
+    used
+}
+
+// Answers the lines that have their ends among the first `end` bytes, but for one whose start was left out.
+fn lines(
+    text: &[u8],
+    end: usize,
+    name: &[u8],
+    line: u64,
+    long: bool,
+    out: &mut Out,
+    used: usize,
+) -> Took {
+    let mut from = 0;
+    let mut row = line;
+    let mut skip = long;
+    let mut n = used;
+    let mut i = 0;
+    while i < end {
+        if byte_at(text, i) == b'\n' {
+            if !skip {
+                n = between(text, from, i, name, row, out, n);
+            }
+            from = i + 1;
+            row = after(row);
+            skip = false;
+        }
+        i += 1;
+    }
+    Took {
+        from,
+        line: row,
+        long: skip,
+        used: n,
+    }
+}
+
+fn copy(text: &mut Text, to: usize, from: usize) {
+    if from < 524288 {
+        if to < 524288 {
+            text[to] = text[from];
+        }
+    }
+}
+
+// Moves what stands from `from` to `end` to the start, and answers how much it is.
+fn move_down(text: &mut Text, from: usize, end: usize) -> usize {
+    let mut i = 0;
+    let mut j = from;
+    while j < end {
+        copy(text, i, j);
+        i += 1;
+        j += 1;
+    }
+    i
+}
+
+// A line that fills the buffer is told and left out.
+fn dropped(name: &[u8], s: State, out: &mut Out) -> State {
+    let used = if s.long {
+        s.used
+    } else {
+        fault::long(out, s.used, name, s.line, s.kept)
+    };
+    State {
+        kept: 0,
+        line: s.line,
+        used,
+        long: true,
+        ended: false,
+        empty: false,
+    }
+}
+
+// Whether nothing was read so far.
+fn is_empty(s: State, got: Got) -> bool {
+    if got.failed {
+        return false;
+    }
+    s.empty && got.end == 0
+}
+
+// Reads on, and answers the lines that have their ends.
+fn read_lines(fd: i32, name: &[u8], text: &mut Text, s: State, out: &mut Out) -> State {
     out::flush(out, s.used);
-    let got = read_on(fd, text, kept);
-    let count = got.count;
+    let got = read_on(fd, text, s.kept);
     let used = if got.failed {
         fault::unread(out, 0, name)
     } else {
         0
     };
+    let t = lines(text, got.end, name, s.line, s.long, out, used);
     State {
-        from: 0,
-        end: kept + count,
-        line: s.line,
-        used,
-        long: s.long,
-        ended: count == 0,
-        done: false,
-        empty: s.empty && count == 0 && !got.failed,
+        kept: move_down(text, t.from, got.end),
+        line: t.line,
+        used: t.used,
+        long: t.long,
+        ended: got.end <= s.kept,
+        empty: is_empty(s, got),
     }
 }
 
-// Answers a line, unless its start was left out.
-fn taken(
-    text: &[u8],
-    name: &[u8],
-    s: State,
-    shorts: &mut [i16],
-    words: &mut [i32],
-    one: &mut [u16],
-    two: &mut [u16],
-    out: &mut Out,
-) -> usize {
-    if s.long {
-        return s.used;
+// One turn.
+fn turn(fd: i32, name: &[u8], text: &mut Text, s: State, out: &mut Out) -> State {
+    if s.kept == 524288 {
+        dropped(name, s, out)
+    } else {
+        read_lines(fd, name, text, s, out)
     }
-    line::answered(text, name, s.line, shorts, words, one, two, out, s.used)
 }
 
-// One turn: answers the next line if the buffer holds its end, and reads on if not. Where the input has ended what is left is the last line.
-fn turn(
-    fd: i32,
-    name: &[u8],
-    text: &mut [u8],
-    s: State,
-    shorts: &mut [i16],
-    words: &mut [i32],
-    one: &mut [u16],
-    two: &mut [u16],
-    out: &mut Out,
-) -> State
-    requires { ⌜ Inside (s .from) (s .end) (length (now text)) ⌝ }
-    ensures { λ r. ⌜ Inside (r .from) (r .end) (length (now (text .exit))) ⌝ }
-{
-    let from = s.from;
-    let end = s.end;
-    let stop = line_end(text, from, end);
-    if stop < end {
-        let used = taken(&text[from..stop], name, s, shorts, words, one, two, out);
-        return State {
-            from: stop + 1,
-            end,
-            line: after(s.line),
-            used,
-            long: false,
-            ended: s.ended,
-            done: false,
-            empty: false,
-        };
+// Answers what is left, the last line. Of an empty input, says how the program is used.
+fn rest(name: &[u8], text: &Text, s: State, out: &mut Out) -> usize {
+    if s.empty {
+        line::answered(b"help", name, s.line, out, s.used)
+    } else if s.long {
+        s.used
+    } else {
+        between(text, 0, s.kept, name, s.line, out, s.used)
     }
-    if s.ended {
-        let used = taken(&text[from..end], name, s, shorts, words, one, two, out);
-        return State {
-            from: end,
-            end,
-            line: s.line,
-            used,
-            long: false,
-            ended: true,
-            done: true,
-            empty: s.empty,
-        };
-    }
-    refilled(fd, name, text, s, out)
 }
 
 // Answers the lines of an input, and where it is empty says how the program is used. A proved loop has to end, and nothing says that an input
 // does: the loop counts its turns down from a number that no run uses up.
-pub(crate) fn replay(
-    fd: i32,
-    name: &[u8],
-    text: &mut [u8],
-    shorts: &mut [i16],
-    words: &mut [i32],
-    one: &mut [u16],
-    two: &mut [u16],
-    out: &mut Out,
-) {
+pub(crate) fn replay(fd: i32, name: &[u8]) {
+    let mut text = [0u8; 524288];
+    let mut out = [0u8; 65536];
     let mut s = State {
-        from: 0,
-        end: 0,
+        kept: 0,
         line: 1,
         used: 0,
         long: false,
         ended: false,
-        done: false,
         empty: true,
     };
     let mut turns = u64::MAX;
-    while 0 < turns && !s.done {
-        s = turn(fd, name, text, s, shorts, words, one, two, out);
+    while 0 < turns && !s.ended {
+        s = turn(fd, name, &mut text, s, &mut out);
         turns -= 1;
     }
-    let used = if s.empty {
-        usage::usage(out, s.used)
-    } else {
-        s.used
-    };
-    out::flush(out, used);
+    let used = rest(name, &text, s, &mut out);
+    out::flush(&out, used);
 }

@@ -1,12 +1,4 @@
-// From a number's size to the signed number, and back.
-ghost use Prim.Native.Nat.{_≤_};
-
-pub(crate) fn signed(negative: bool, size: u64) -> i64
-    requires { ⌜ size ≤ 2147483648 ⌝ }
-{
-    let n = size as i64;
-    if negative { -n } else { n }
-}
+// Signed numbers: widened, and their absolute values.
 
 pub(crate) fn wide_16(v: i16) -> i64 {
     v as i64

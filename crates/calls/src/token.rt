@@ -1,28 +1,35 @@
 // One number as it stands in the text: blanks, a sign, digits, and then a blank, a star or the line's end.
-ghost use lib.ListN.{length};
-ghost use Rattle.calls.specs.Window.{Sought};
-use crate::cursor::Cursor;
-use crate::cursor::Fault;
-use crate::cursor::Kind;
-use crate::cursor::good;
-use crate::cursor::is_good;
-use crate::cursor::out_of_range;
+use crate::out::after;
 
-// A number, where it stood, and where reading goes on. At a fault: 0.
+// What can be wrong with a line. `fault` has the words.
+pub(crate) const NOTHING: u8 = b' ';
+
+pub(crate) const MISSING: u8 = b'M';
+
+pub(crate) const NOT_A_NUMBER: u8 = b'N';
+
+pub(crate) const OUT_OF_RANGE: u8 = b'R';
+
+pub(crate) const EXTRA: u8 = b'E';
+
+pub(crate) const UNKNOWN: u8 = b'U';
+
+// A number's sign and size, where it stands, where reading goes on, and what is wrong with it.
 pub(crate) struct Token {
     pub(crate) negative: bool,
-    pub(crate) size: u64,
+    pub(crate) size: usize,
     pub(crate) from: usize,
-    pub(crate) next: Cursor,
+    pub(crate) next: usize,
+    pub(crate) fault: u8,
 }
 
 struct Digits {
-    size: u64,
+    size: usize,
     stop: usize,
-    large: bool,
+    fault: u8,
 }
 
-fn is_blank(b: u8) -> bool {
+pub(crate) fn is_blank(b: u8) -> bool {
     b == b' ' || b == b'\t' || b == b'\r'
 }
 
@@ -32,9 +39,7 @@ pub(crate) fn byte_at(line: &[u8], at: usize) -> u8 {
 }
 
 // The first place from `at` on that is a blank, or that is none, as asked; or the line's end.
-pub(crate) fn seek(line: &[u8], at: usize, blank: bool) -> usize
-    ensures { λ r. ⌜ Sought at r (length (now (line .entry))) ⌝ }
-{
+pub(crate) fn seek(line: &[u8], at: usize, blank: bool) -> usize {
     let mut i = at;
     while i < line.len() {
         if is_blank(line[i]) == blank {
@@ -46,20 +51,20 @@ pub(crate) fn seek(line: &[u8], at: usize, blank: bool) -> usize
 }
 
 // The value of a digit, and 10 of any other byte.
-fn digit(b: u8) -> u64 {
+fn digit(b: u8) -> usize {
     if b'0' <= b && b <= b'9' {
-        return (b - b'0') as u64;
+        return (b - b'0') as usize;
     }
     10
 }
 
 enum Longer {
-    Fits(u64),
+    Fits(usize),
     Large,
 }
 
 // A number with one digit more, where 64 bits hold it.
-fn with_digit(size: u64, d: u64) -> Longer {
+fn with_digit(size: usize, d: usize) -> Longer {
     if size < 1844674407370955161 {
         if d < 10 {
             return Longer::Fits(size * 10 + d);
@@ -72,10 +77,10 @@ fn with_digit(size: u64, d: u64) -> Longer {
     Longer::Large
 }
 
-// The digits from `at` on. `large`: the number has more than 64 bits.
+// The digits from `at` on. The fault: the number has more than 64 bits.
 fn digits_at(line: &[u8], at: usize) -> Digits {
-    let mut size: u64 = 0;
-    let mut large = false;
+    let mut size = 0;
+    let mut fault = NOTHING;
     let mut i = at;
     while i < line.len() {
         let d = digit(line[i]);
@@ -87,7 +92,7 @@ fn digits_at(line: &[u8], at: usize) -> Digits {
                 size = n;
             }
             Longer::Large => {
-                large = true;
+                fault = OUT_OF_RANGE;
             }
         }
         i += 1;
@@ -95,49 +100,38 @@ fn digits_at(line: &[u8], at: usize) -> Digits {
     Digits {
         size,
         stop: i,
-        large,
+        fault,
     }
 }
 
-fn faulty(c: Cursor) -> Token {
-    let from = c.at;
-    Token {
-        negative: false,
-        size: 0,
-        from,
-        next: c,
-    }
+// Whether a number may end before this byte.
+fn ends(b: u8) -> bool {
+    is_blank(b) || b == b'*'
 }
 
-pub(crate) fn token_at(line: &[u8], c: Cursor, kind: Kind) -> Token {
-    if !is_good(c) {
-        return faulty(c);
-    }
-    let from = seek(line, c.at, false);
+// What is wrong with a number that stands at `from` and has these digits from `first` on.
+fn judged(line: &[u8], from: usize, first: usize, d: Digits) -> u8 {
     if line.len() <= from {
-        return faulty(Cursor {
-            at: from,
-            fault: Fault::Missing(kind),
-        });
+        return MISSING;
     }
-    let negative = line[from] == b'-';
-    let first = if negative { from + 1 } else { from };
-    let n = digits_at(line, first);
-    let stop = n.stop;
-    let after = byte_at(line, stop);
-    if stop == first || !(is_blank(after) || after == b'*') {
-        return faulty(Cursor {
-            at: from,
-            fault: Fault::NotANumber(kind),
-        });
+    if d.stop != first {
+        if ends(byte_at(line, d.stop)) {
+            return d.fault;
+        }
     }
-    if n.large {
-        return faulty(out_of_range(from, kind));
-    }
+    NOT_A_NUMBER
+}
+
+pub(crate) fn token_at(line: &[u8], at: usize) -> Token {
+    let from = seek(line, at, false);
+    let negative = byte_at(line, from) == b'-';
+    let first = if negative { after(from) } else { from };
+    let d = digits_at(line, first);
     Token {
         negative,
-        size: n.size,
+        size: d.size,
         from,
-        next: good(stop),
+        next: d.stop,
+        fault: judged(line, from, first, d),
     }
 }

@@ -1,87 +1,141 @@
-// The calls of the scale, the dequantizer and the two stages.
+// The calls of the scale, the dequantizer, the two stages, the block job and the sub-block.
 use crate::answer;
-use crate::buffer;
-use crate::cursor::Cursor;
-use crate::cursor::is_good;
-use crate::groups::pair_at;
-use crate::number;
+use crate::answer::Said;
+use crate::numbers;
+use crate::numbers::Numbers;
+use crate::numbers::byte;
+use crate::numbers::flag;
+use crate::numbers::size;
+use crate::numbers::word;
 use crate::out::Out;
-use crate::said::Said;
+use evc::Job;
+use evc::Part;
+use evc::SubBlock;
 
-pub(crate) fn scale(line: &[u8], c: Cursor, out: &mut Out, used: usize) -> Said {
-    let qp = number::byte(line, c);
-    let end = number::end(line, qp.next);
-    if !is_good(end) {
-        return Said { used, end };
-    }
-    let n = answer::of_scale(out, used, table::scale(qp.value));
-    Said { used: n, end }
+fn scale(n: &Numbers) -> Said {
+    answer::of_scale(table::scale(byte(n, 0)))
 }
 
-pub(crate) fn dquant(line: &[u8], c: Cursor, coef: &mut [i16], out: &mut Out, used: usize) -> Said {
-    let logs = pair_at(line, c);
-    let scale = number::word(line, logs.next);
-    let offset = number::word(line, scale.next);
-    let shift = number::byte(line, offset.next);
-    let n = buffer::shorts(line, shift.next, coef);
-    let k = n.value;
-    let end = number::end(line, n.next);
-    if !is_good(end) {
-        return Said { used, end };
-    }
+fn dquant(n: &Numbers, coef: &mut [i16]) -> Said {
     let a = dquant::evc_dquant(
-        &mut coef[0..k],
-        logs.x,
-        logs.y,
-        scale.value,
-        offset.value,
-        shift.value,
+        coef,
+        size(n, 0),
+        size(n, 1),
+        word(n, 2),
+        word(n, 3),
+        byte(n, 4),
     );
-    let used = answer::with_shorts(out, used, a, &coef[0..k]);
-    Said { used, end }
+    answer::of_call(a)
 }
 
-pub(crate) fn itxb0(
-    line: &[u8],
-    c: Cursor,
-    src: &mut [i16],
-    dst: &mut [i32],
-    out: &mut Out,
-    used: usize,
-) -> Said {
-    let logs = pair_at(line, c);
-    let n = buffer::shorts(line, logs.next, src);
-    let m = buffer::words(line, n.next, dst);
-    let i = n.value;
-    let k = m.value;
-    let end = number::end(line, m.next);
-    if !is_good(end) {
-        return Said { used, end };
-    }
-    let a = stages::itxb0(&src[0..i], &mut dst[0..k], logs.x, logs.y);
-    let used = answer::with_words(out, used, a, &dst[0..k]);
-    Said { used, end }
+fn itxb0(n: &Numbers, src: &[i16], dst: &mut [i32]) -> Said {
+    answer::of_call(stages::itxb0(src, dst, size(n, 0), size(n, 1)))
 }
 
-pub(crate) fn itxb1(
-    line: &[u8],
-    c: Cursor,
-    src: &mut [i32],
-    dst: &mut [i16],
+fn itxb1(n: &Numbers, src: &[i32], dst: &mut [i16]) -> Said {
+    answer::of_call(stages::itxb1(src, dst, size(n, 0), size(n, 1), byte(n, 2)))
+}
+
+fn job(n: &Numbers, coef: &mut [i16]) -> Said {
+    let job = Job {
+        start: size(n, 0),
+        logw: size(n, 1),
+        logh: size(n, 2),
+        qp: byte(n, 3),
+        offset: word(n, 4),
+        dqshift: byte(n, 5),
+        itshift: byte(n, 6),
+    };
+    answer::of_call(itdq::evc_itdq_job(coef, job))
+}
+
+// What a component has of its own: its flag, start and qp stand three places apart.
+fn part(n: &Numbers, i: usize) -> Part {
+    if i < 3 {
+        Part {
+            flag: flag(n, 5 + i),
+            start: size(n, 8 + i),
+            qp: byte(n, 11 + i),
+        }
+    } else {
+        Part {
+            flag: false,
+            start: 0,
+            qp: 0,
+        }
+    }
+}
+
+fn sub_block(n: &Numbers, coef: &mut [i16]) -> Said {
+    let y = part(n, 0);
+    let u = part(n, 1);
+    let v = part(n, 2);
+    let call = SubBlock {
+        logw: size(n, 0),
+        logh: size(n, 1),
+        offset: word(n, 2),
+        dqshift: byte(n, 3),
+        itshift: byte(n, 4),
+        y,
+        u,
+        v,
+    };
+    answer::of_sub_block(itdq::evc_sub_block_itdq2(coef, call))
+}
+
+fn called(tag: u8, n: &Numbers, shorts: &mut [i16], words: &mut [i32]) -> Said {
+    match tag {
+        b'a' => scale(n),
+        b'b' => dquant(n, shorts),
+        b'c' => itxb0(n, shorts, words),
+        b'd' => itxb1(n, words, shorts),
+        b'e' => job(n, shorts),
+        _ => sub_block(n, shorts),
+    }
+}
+
+// What the buffer then holds that the call may write.
+fn written(tag: u8, shorts: &[i16], words: &[i32], out: &mut Out, used: usize) -> usize {
+    match tag {
+        b'a' => used,
+        b'c' => answer::words(out, used, words),
+        _ => answer::shorts(out, used, shorts),
+    }
+}
+
+// Calls, and says what came.
+fn answered(
+    tag: u8,
+    n: &Numbers,
+    shorts: &mut [i16],
+    words: &mut [i32],
     out: &mut Out,
     used: usize,
-) -> Said {
-    let logs = pair_at(line, c);
-    let shift = number::byte(line, logs.next);
-    let n = buffer::words(line, shift.next, src);
-    let m = buffer::shorts(line, n.next, dst);
-    let i = n.value;
-    let k = m.value;
-    let end = number::end(line, m.next);
-    if !is_good(end) {
-        return Said { used, end };
-    }
-    let a = stages::itxb1(&src[0..i], &mut dst[0..k], logs.x, logs.y, shift.value);
-    let used = answer::with_shorts(out, used, a, &dst[0..k]);
-    Said { used, end }
+) -> usize {
+    let s = called(tag, n, shorts, words);
+    let m = answer::say(out, used, s);
+    written(tag, shorts, words, out, m)
+}
+
+fn with_words(
+    tag: u8,
+    n: &Numbers,
+    shorts: &mut [i16],
+    words: &mut [i32],
+    out: &mut Out,
+    used: usize,
+) -> usize {
+    let j = numbers::words(n, words);
+    answered(tag, n, shorts, &mut words[0..j], out, used)
+}
+
+fn with_shorts(tag: u8, n: &Numbers, shorts: &mut [i16], out: &mut Out, used: usize) -> usize {
+    let mut words = [0i32; 16384];
+    let i = numbers::shorts(n, shorts);
+    with_words(tag, n, &mut shorts[0..i], &mut words, out, used)
+}
+
+pub(crate) fn transform(tag: u8, n: &Numbers, out: &mut Out, used: usize) -> usize {
+    let mut shorts = [0i16; 16384];
+    with_shorts(tag, n, &mut shorts, out, used)
 }

@@ -1,4 +1,4 @@
--- `calls::answer::words` is safe and ends, as `shorts` does. Assumes nothing.
+-- `calls::answer::words` is safe and ends: the numbers that are left are the measure. Assumes nothing.
 use borrow.Author.Needs.{needs}
 use Prim.Native.Nat.{_-_}
 use lib.ListN.{length}
@@ -11,17 +11,11 @@ Inv-loop out₀ used s n₀ i₀ out n i = Unit {0}
 abbrev μ-loop : tie.MeasureT-loop
 μ-loop out₀ used s n₀ i₀ out n i = length s - i
 
-slice-aggregate-text : tie.Need-slice-aggregate-text Inv-loop μ-loop
-slice-aggregate-text c = search needs
-
-text-requires : tie.Need-text-requires Inv-loop μ-loop
-text-requires c κs = search needs
+item-requires : tie.Need-item-requires Inv-loop μ-loop
+item-requires c κs = search needs
 
 loop-holds : tie.Need-loop-holds Inv-loop μ-loop
 loop-holds c = search needs
-
-byte-requires : tie.Need-byte-requires Inv-loop μ-loop
-byte-requires c κs = search needs
 
 mul-wide-32 : tie.Need-mul-wide-32 Inv-loop μ-loop
 mul-wide-32 c = search needs
@@ -32,8 +26,8 @@ shared-slice-copy-out-wide-32 c = search needs
 wide-32-requires : tie.Need-wide-32-requires Inv-loop μ-loop
 wide-32-requires c κs = search needs
 
-signed-requires : tie.Need-signed-requires Inv-loop μ-loop
-signed-requires c κs = search needs
+number-requires : tie.Need-number-requires Inv-loop μ-loop
+number-requires c κs = search needs
 
 add-i : tie.Need-add-i Inv-loop μ-loop
 add-i c = search needs
@@ -44,9 +38,6 @@ loop-less c = search needs
 loop-again : tie.Need-loop-again Inv-loop μ-loop
 loop-again c = search needs
 
-byte-requires-2 : tie.Need-byte-requires-2 Inv-loop μ-loop
-byte-requires-2 c κs = search needs
-
 returns : tie.Need-returns Inv-loop μ-loop
 returns c = search needs
 
@@ -56,16 +47,13 @@ words-spec =
     (tie.spec
     Inv-loop
     μ-loop
-    slice-aggregate-text
-    text-requires
+    item-requires
     loop-holds
-    byte-requires
     mul-wide-32
     shared-slice-copy-out-wide-32
     wide-32-requires
-    signed-requires
+    number-requires
     add-i
     loop-less
     loop-again
-    byte-requires-2
     returns)

