@@ -101,44 +101,64 @@ pub(crate) fn of_sub_block(a: SubAnswer) -> Said {
     }
 }
 
+// The words for a refusal, or for 0.
+fn words_of(out: &mut Out, used: usize, number: u8) -> usize {
+    row(
+        out,
+        used,
+        b"0 done
+1 SIZE
+2 QP
+3 SHIFT
+4 DEPTH
+5 AREA
+6 OVERLAP
+7 SAMPLE",
+        number,
+        2,
+    )
+}
+
 pub(crate) fn say(out: &mut Out, used: usize, s: Said) -> usize {
     let n = byte(out, used, s.number);
     if s.valued {
         let m = text(out, n, b" value ");
         return signed(out, m, s.value);
     }
-    let m = row(
-        out,
-        n,
-        b"0 done\n1 SIZE\n2 QP\n3 SHIFT\n4 DEPTH\n5 AREA\n6 OVERLAP\n7 SAMPLE",
-        s.number,
-        2,
-    );
+    let m = words_of(out, n, s.number);
     if s.component == b' ' {
         return m;
     }
-    let k = byte(out, m, b' ');
-    byte(out, k, s.component)
+    item(out, m, s.component)
+}
+
+// A blank and a letter, or a number.
+fn item(out: &mut Out, used: usize, letter: u8) -> usize {
+    let n = byte(out, used, b' ');
+    byte(out, n, letter)
+}
+
+fn number(out: &mut Out, used: usize, v: i64) -> usize {
+    let n = byte(out, used, b' ');
+    signed(out, n, v)
 }
 
 // The final contents of a buffer that a call may write.
 pub(crate) fn shorts(out: &mut Out, used: usize, s: &[i16]) -> usize {
-    let mut n = text(out, used, b" |");
+    let mut n = item(out, used, b'|');
     let mut i = 0;
     while i < s.len() {
-        n = byte(out, n, b' ');
-        n = signed(out, n, wide_16(s[i]));
+        n = number(out, n, wide_16(s[i]));
         i += 1;
     }
     n
 }
 
 pub(crate) fn words(out: &mut Out, used: usize, s: &[i32]) -> usize {
-    let mut n = text(out, used, b" |");
+    let mut n = item(out, used, b'|');
     let mut i = 0;
     while i < s.len() {
-        n = byte(out, n, b' ');
-        n = signed(out, n, wide_32(s[i]));
+        n = number(out, n, wide_32(s[i]));
         i += 1;
     }
     n

@@ -149,29 +149,58 @@ fn called(tag: u8, n: &Numbers, shorts: &mut [i16], one: &[u16], two: &[u16]) ->
     }
 }
 
+// Calls, and says what came.
 fn answered(
     tag: u8,
     n: &Numbers,
     shorts: &mut [i16],
-    one: &mut [u16],
-    two: &mut [u16],
+    one: &[u16],
+    two: &[u16],
     out: &mut Out,
     used: usize,
 ) -> usize {
-    let h = numbers::shorts(n, shorts);
-    let i = numbers::samples(n, ONE, one);
-    let j = numbers::samples(n, TWO, two);
-    let s = called(tag, n, &mut shorts[0..h], &one[0..i], &two[0..j]);
+    let s = called(tag, n, shorts, one, two);
     let m = answer::say(out, used, s);
     if tag == b'g' {
-        return answer::shorts(out, m, &shorts[0..h]);
+        return answer::shorts(out, m, shorts);
     }
     m
 }
 
+// The buffers one by one: with all of them in one function, its check is many times as long.
+fn with_two(
+    tag: u8,
+    n: &Numbers,
+    shorts: &mut [i16],
+    one: &[u16],
+    two: &mut [u16],
+    out: &mut Out,
+    used: usize,
+) -> usize {
+    let j = numbers::samples(n, TWO, two);
+    answered(tag, n, shorts, one, &two[0..j], out, used)
+}
+
+fn with_one(
+    tag: u8,
+    n: &Numbers,
+    shorts: &mut [i16],
+    one: &mut [u16],
+    out: &mut Out,
+    used: usize,
+) -> usize {
+    let mut two = [0u16; 16384];
+    let i = numbers::samples(n, ONE, one);
+    with_two(tag, n, shorts, &one[0..i], &mut two, out, used)
+}
+
+fn with_shorts(tag: u8, n: &Numbers, shorts: &mut [i16], out: &mut Out, used: usize) -> usize {
+    let mut one = [0u16; 16384];
+    let h = numbers::shorts(n, shorts);
+    with_one(tag, n, &mut shorts[0..h], &mut one, out, used)
+}
+
 pub(crate) fn compare(tag: u8, n: &Numbers, out: &mut Out, used: usize) -> usize {
     let mut shorts = [0i16; 16384];
-    let mut one = [0u16; 16384];
-    let mut two = [0u16; 16384];
-    answered(tag, n, &mut shorts, &mut one, &mut two, out, used)
+    with_shorts(tag, n, &mut shorts, out, used)
 }

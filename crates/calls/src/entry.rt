@@ -6,6 +6,7 @@ use crate::out::byte;
 use crate::out::row;
 use crate::out::text;
 use crate::token::byte_at;
+use crate::token::is_blank;
 
 pub(crate) type Table = [u8; 1087];
 
@@ -33,8 +34,8 @@ fn same(table: &Table, at: usize, line: &[u8], from: usize) -> bool {
     let mut j = from;
     while i < 1087 {
         let b = byte_at(line, j);
-        if b <= b' ' || table[i] <= b' ' {
-            return b <= b' ' && table[i] <= b' ';
+        if is_blank(b) {
+            return table[i] <= b' ';
         }
         if b != table[i] {
             return false;

@@ -32,13 +32,19 @@ r 1 to what is left of the buffer",
     )
 }
 
-// Where: the input's name, if it has one, the line, and the column, counted from 1.
-fn place(out: &mut Out, used: usize, name: &[u8], line: u64, at: usize) -> usize {
-    let mut n = text(out, used, b"error: ");
+// The input's name, if it has one.
+fn input(out: &mut Out, used: usize, name: &[u8]) -> usize {
+    let n = text(out, used, b"error: ");
     if 0 < name.len() {
-        n = text(out, n, name);
-        n = text(out, n, b", ");
+        let m = text(out, n, name);
+        return text(out, m, b", ");
     }
+    n
+}
+
+// Where: the input, the line, and the column, counted from 1.
+fn place(out: &mut Out, used: usize, name: &[u8], line: u64, at: usize) -> usize {
+    let mut n = input(out, used, name);
     n = text(out, n, b"line ");
     n = number(out, n, line);
     n = text(out, n, b", column ");

@@ -3,6 +3,7 @@ use crate::fault;
 use crate::line;
 use crate::out;
 use crate::out::Out;
+use crate::token::byte_at;
 
 type Text = [u8; 524288];
 
@@ -85,8 +86,8 @@ fn lines(
     let mut skip = long;
     let mut n = used;
     let mut i = 0;
-    while i < end && i < text.len() {
-        if text[i] == b'\n' {
+    while i < end {
+        if byte_at(text, i) == b'\n' {
             if !skip {
                 n = between(text, from, i, name, row, out, n);
             }
@@ -124,36 +125,33 @@ fn move_down(text: &mut Text, from: usize, end: usize) -> usize {
     i
 }
 
-// What is left for the next turn. A line that fills the buffer is told and left out.
-fn left(name: &[u8], s: State, got: Got, t: Took, kept: usize, out: &mut Out) -> State {
-    if kept == 524288 {
-        let used = if t.long {
-            t.used
-        } else {
-            fault::long(out, t.used, name, t.line, kept)
-        };
-        return State {
-            kept: 0,
-            line: t.line,
-            used,
-            long: true,
-            ended: false,
-            empty: false,
-        };
-    }
-    let ended = got.end <= s.kept;
+// A line that fills the buffer is told and left out.
+fn dropped(name: &[u8], s: State, out: &mut Out) -> State {
+    let used = if s.long {
+        s.used
+    } else {
+        fault::long(out, s.used, name, s.line, s.kept)
+    };
     State {
-        kept,
-        line: t.line,
-        used: t.used,
-        long: t.long,
-        ended,
-        empty: s.empty && ended && !got.failed,
+        kept: 0,
+        line: s.line,
+        used,
+        long: true,
+        ended: false,
+        empty: false,
     }
 }
 
-// One turn: reads on, and answers the lines that have their ends.
-fn turn(fd: i32, name: &[u8], text: &mut Text, s: State, out: &mut Out) -> State {
+// Whether nothing was read so far.
+fn is_empty(s: State, got: Got) -> bool {
+    if got.failed {
+        return false;
+    }
+    s.empty && got.end == 0
+}
+
+// Reads on, and answers the lines that have their ends.
+fn read_lines(fd: i32, name: &[u8], text: &mut Text, s: State, out: &mut Out) -> State {
     out::flush(out, s.used);
     let got = read_on(fd, text, s.kept);
     let used = if got.failed {
@@ -162,8 +160,23 @@ fn turn(fd: i32, name: &[u8], text: &mut Text, s: State, out: &mut Out) -> State
         0
     };
     let t = lines(text, got.end, name, s.line, s.long, out, used);
-    let kept = move_down(text, t.from, got.end);
-    left(name, s, got, t, kept, out)
+    State {
+        kept: move_down(text, t.from, got.end),
+        line: t.line,
+        used: t.used,
+        long: t.long,
+        ended: got.end <= s.kept,
+        empty: is_empty(s, got),
+    }
+}
+
+// One turn.
+fn turn(fd: i32, name: &[u8], text: &mut Text, s: State, out: &mut Out) -> State {
+    if s.kept == 524288 {
+        dropped(name, s, out)
+    } else {
+        read_lines(fd, name, text, s, out)
+    }
 }
 
 // Answers what is left, the last line. Of an empty input, says how the program is used.

@@ -17,21 +17,26 @@ mod transforms;
 
 use libc::STDIN_FILENO;
 
-// Replays the file that an argument names. What can't be opened can't be read either, and is told where it is read.
+// Replays a file. What can't be opened can't be read either, and is told where it is read.
+fn open(path: &[u8]) {
+    let fd = os::open_read(path);
+    if fd < 0 {
+        os::fail(path);
+    }
+    input::replay(fd, path);
+    libc::close(fd);
+}
+
+// Replays the file that an argument names.
 fn file(i: usize) {
     let mut path = io::buffer();
     let n = os::arg(i, &mut path);
     if os::errno() != 0 || n == 0 {
         os::fail(b"an argument");
         input::replay(-1, b"an argument");
-        return;
+    } else {
+        open(&path[0..n]);
     }
-    let fd = os::open_read(&path[0..n]);
-    if fd < 0 {
-        os::fail(&path[0..n]);
-    }
-    input::replay(fd, &path[0..n]);
-    libc::close(fd);
 }
 
 // Replays the files that the arguments name, or standard input where there are none.

@@ -26,10 +26,10 @@ pub(crate) struct Token {
 struct Digits {
     size: usize,
     stop: usize,
-    large: bool,
+    fault: u8,
 }
 
-fn is_blank(b: u8) -> bool {
+pub(crate) fn is_blank(b: u8) -> bool {
     b == b' ' || b == b'\t' || b == b'\r'
 }
 
@@ -77,10 +77,10 @@ fn with_digit(size: usize, d: usize) -> Longer {
     Longer::Large
 }
 
-// The digits from `at` on. `large`: the number has more than 64 bits.
+// The digits from `at` on. The fault: the number has more than 64 bits.
 fn digits_at(line: &[u8], at: usize) -> Digits {
     let mut size = 0;
-    let mut large = false;
+    let mut fault = NOTHING;
     let mut i = at;
     while i < line.len() {
         let d = digit(line[i]);
@@ -92,7 +92,7 @@ fn digits_at(line: &[u8], at: usize) -> Digits {
                 size = n;
             }
             Longer::Large => {
-                large = true;
+                fault = OUT_OF_RANGE;
             }
         }
         i += 1;
@@ -100,22 +100,26 @@ fn digits_at(line: &[u8], at: usize) -> Digits {
     Digits {
         size,
         stop: i,
-        large,
+        fault,
     }
+}
+
+// Whether a number may end before this byte.
+fn ends(b: u8) -> bool {
+    is_blank(b) || b == b'*'
 }
 
 // What is wrong with a number that stands at `from` and has these digits from `first` on.
 fn judged(line: &[u8], from: usize, first: usize, d: Digits) -> u8 {
-    let b = byte_at(line, d.stop);
     if line.len() <= from {
-        MISSING
-    } else if d.stop == first || !(is_blank(b) || b == b'*') {
-        NOT_A_NUMBER
-    } else if d.large {
-        OUT_OF_RANGE
-    } else {
-        NOTHING
+        return MISSING;
     }
+    if d.stop != first {
+        if ends(byte_at(line, d.stop)) {
+            return d.fault;
+        }
+    }
+    NOT_A_NUMBER
 }
 
 pub(crate) fn token_at(line: &[u8], at: usize) -> Token {

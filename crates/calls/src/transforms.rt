@@ -103,6 +103,7 @@ fn written(tag: u8, shorts: &[i16], words: &[i32], out: &mut Out, used: usize) -
     }
 }
 
+// Calls, and says what came.
 fn answered(
     tag: u8,
     n: &Numbers,
@@ -111,15 +112,30 @@ fn answered(
     out: &mut Out,
     used: usize,
 ) -> usize {
-    let i = numbers::shorts(n, shorts);
-    let j = numbers::words(n, words);
-    let s = called(tag, n, &mut shorts[0..i], &mut words[0..j]);
+    let s = called(tag, n, shorts, words);
     let m = answer::say(out, used, s);
-    written(tag, &shorts[0..i], &words[0..j], out, m)
+    written(tag, shorts, words, out, m)
+}
+
+fn with_words(
+    tag: u8,
+    n: &Numbers,
+    shorts: &mut [i16],
+    words: &mut [i32],
+    out: &mut Out,
+    used: usize,
+) -> usize {
+    let j = numbers::words(n, words);
+    answered(tag, n, shorts, &mut words[0..j], out, used)
+}
+
+fn with_shorts(tag: u8, n: &Numbers, shorts: &mut [i16], out: &mut Out, used: usize) -> usize {
+    let mut words = [0i32; 16384];
+    let i = numbers::shorts(n, shorts);
+    with_words(tag, n, &mut shorts[0..i], &mut words, out, used)
 }
 
 pub(crate) fn transform(tag: u8, n: &Numbers, out: &mut Out, used: usize) -> usize {
     let mut shorts = [0i16; 16384];
-    let mut words = [0i32; 16384];
-    answered(tag, n, &mut shorts, &mut words, out, used)
+    with_shorts(tag, n, &mut shorts, out, used)
 }

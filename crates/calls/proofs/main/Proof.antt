@@ -3,9 +3,6 @@ use borrow.Author.Needs.{needs}
 use Prim.Native.Nat.{_-_}
 use Rattle.calls.proofs.main.Statement.{statement}
 use Rattle.calls.proofs.main.Tie as tie
-use Rattle.calls.proofs.file.Reads as file-reads
-use Rattle.calls.proofs.input.replay.Reads as replay-reads
-use Rattle.os.proofs.arg_count.Reads as arg-count-reads
 
 abbrev Inv-loop : tie.InvT-loop
 Inv-loop count i₀ i = Unit {0}

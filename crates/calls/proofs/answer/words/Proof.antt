@@ -4,10 +4,6 @@ use Prim.Native.Nat.{_-_}
 use lib.ListN.{length}
 use Rattle.calls.proofs.answer.words.Statement.{statement}
 use Rattle.calls.proofs.answer.words.Tie as tie
-use Rattle.calls.proofs.out.byte.Reads as byte-reads
-use Rattle.calls.proofs.out.signed.Reads as signed-reads
-use Rattle.calls.proofs.out.text.Reads as text-reads
-use Rattle.calls.proofs.sign.wide_32.Reads as wide-32-reads
 
 abbrev Inv-loop : tie.InvT-loop
 Inv-loop out₀ used s n₀ i₀ out n i = Unit {0}
@@ -15,17 +11,11 @@ Inv-loop out₀ used s n₀ i₀ out n i = Unit {0}
 abbrev μ-loop : tie.MeasureT-loop
 μ-loop out₀ used s n₀ i₀ out n i = length s - i
 
-slice-aggregate-text : tie.Need-slice-aggregate-text Inv-loop μ-loop
-slice-aggregate-text c = search needs
-
-text-requires : tie.Need-text-requires Inv-loop μ-loop
-text-requires c κs = search needs
+item-requires : tie.Need-item-requires Inv-loop μ-loop
+item-requires c κs = search needs
 
 loop-holds : tie.Need-loop-holds Inv-loop μ-loop
 loop-holds c = search needs
-
-byte-requires : tie.Need-byte-requires Inv-loop μ-loop
-byte-requires c κs = search needs
 
 mul-wide-32 : tie.Need-mul-wide-32 Inv-loop μ-loop
 mul-wide-32 c = search needs
@@ -36,8 +26,8 @@ shared-slice-copy-out-wide-32 c = search needs
 wide-32-requires : tie.Need-wide-32-requires Inv-loop μ-loop
 wide-32-requires c κs = search needs
 
-signed-requires : tie.Need-signed-requires Inv-loop μ-loop
-signed-requires c κs = search needs
+number-requires : tie.Need-number-requires Inv-loop μ-loop
+number-requires c κs = search needs
 
 add-i : tie.Need-add-i Inv-loop μ-loop
 add-i c = search needs
@@ -57,14 +47,12 @@ words-spec =
     (tie.spec
     Inv-loop
     μ-loop
-    slice-aggregate-text
-    text-requires
+    item-requires
     loop-holds
-    byte-requires
     mul-wide-32
     shared-slice-copy-out-wide-32
     wide-32-requires
-    signed-requires
+    number-requires
     add-i
     loop-less
     loop-again

@@ -3,7 +3,6 @@ use borrow.Author.Needs.{needs}
 use Prim.Native.Nat.{_-_}
 use Rattle.calls.proofs.entry.find.Statement.{statement}
 use Rattle.calls.proofs.entry.find.Tie as tie
-use Rattle.calls.proofs.entry.same.Reads as same-reads
 
 abbrev Inv-loop : tie.InvT-loop
 Inv-loop table line from i₀ i = Unit {0}

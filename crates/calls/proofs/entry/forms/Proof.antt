@@ -3,8 +3,6 @@ use borrow.Author.Needs.{needs}
 use Prim.Native.Nat.{_-_}
 use Rattle.calls.proofs.entry.forms.Statement.{statement}
 use Rattle.calls.proofs.entry.forms.Tie as tie
-use Rattle.calls.proofs.out.byte.Reads as byte-reads
-use Rattle.calls.proofs.out.row.Reads as row-reads
 
 abbrev Inv-loop : tie.InvT-loop
 Inv-loop out₀ used table n₀ tag₀ out n tag = Unit {0}

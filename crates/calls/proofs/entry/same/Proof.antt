@@ -3,8 +3,6 @@ use borrow.Author.Needs.{needs}
 use Prim.Native.Nat.{_-_}
 use Rattle.calls.proofs.entry.same.Statement.{statement}
 use Rattle.calls.proofs.entry.same.Tie as tie
-use Rattle.calls.proofs.out.after.Reads as after-reads
-use Rattle.calls.proofs.token.byte_at.Reads as byte-at-reads
 
 abbrev Inv-loop : tie.InvT-loop
 Inv-loop table at line from i₀ j₀ i j = Unit {0}
@@ -18,8 +16,8 @@ loop-holds c = search needs
 byte-at-requires : tie.Need-byte-at-requires Inv-loop μ-loop
 byte-at-requires c κs = search needs
 
-element-copy-out-if2 : tie.Need-element-copy-out-if2 Inv-loop μ-loop
-element-copy-out-if2 c = search needs
+is-blank-requires : tie.Need-is-blank-requires Inv-loop μ-loop
+is-blank-requires c κs = search needs
 
 element-copy-out-result : tie.Need-element-copy-out-result Inv-loop μ-loop
 element-copy-out-result c = search needs
@@ -27,14 +25,11 @@ element-copy-out-result c = search needs
 returns : tie.Need-returns Inv-loop μ-loop
 returns c = search needs
 
+element-copy-out-if2 : tie.Need-element-copy-out-if2 Inv-loop μ-loop
+element-copy-out-if2 c = search needs
+
 returns-2 : tie.Need-returns-2 Inv-loop μ-loop
 returns-2 c = search needs
-
-element-copy-out-if4 : tie.Need-element-copy-out-if4 Inv-loop μ-loop
-element-copy-out-if4 c = search needs
-
-returns-3 : tie.Need-returns-3 Inv-loop μ-loop
-returns-3 c = search needs
 
 add-i : tie.Need-add-i Inv-loop μ-loop
 add-i c = search needs
@@ -48,8 +43,8 @@ loop-less c = search needs
 loop-again : tie.Need-loop-again Inv-loop μ-loop
 loop-again c = search needs
 
-returns-4 : tie.Need-returns-4 Inv-loop μ-loop
-returns-4 c = search needs
+returns-3 : tie.Need-returns-3 Inv-loop μ-loop
+returns-3 c = search needs
 
 pub same-spec : {M : Type 1} → statement M
 same-spec =
@@ -59,14 +54,13 @@ same-spec =
     μ-loop
     loop-holds
     byte-at-requires
-    element-copy-out-if2
+    is-blank-requires
     element-copy-out-result
     returns
+    element-copy-out-if2
     returns-2
-    element-copy-out-if4
-    returns-3
     add-i
     after-requires
     loop-less
     loop-again
-    returns-4)
+    returns-3)

@@ -3,8 +3,6 @@ use borrow.Author.Needs.{needs}
 use Prim.Native.Nat.{_-_}
 use Rattle.calls.proofs.input.lines.Statement.{statement}
 use Rattle.calls.proofs.input.lines.Tie as tie
-use Rattle.calls.proofs.input.after.Reads as after-reads
-use Rattle.calls.proofs.input.between.Reads as between-reads
 
 abbrev Inv-loop : tie.InvT-loop
 Inv-loop text end name line long out₀ used from₀ row₀ skip₀ n₀ i₀ out from row skip n i = Unit {0}
@@ -15,8 +13,8 @@ abbrev μ-loop : tie.MeasureT-loop
 loop-holds : tie.Need-loop-holds Inv-loop μ-loop
 loop-holds c = search needs
 
-shared-slice-read-if2 : tie.Need-shared-slice-read-if2 Inv-loop μ-loop
-shared-slice-read-if2 c = search needs
+byte-at-requires : tie.Need-byte-at-requires Inv-loop μ-loop
+byte-at-requires c κs = search needs
 
 between-requires : tie.Need-between-requires Inv-loop μ-loop
 between-requires c κs = search needs
@@ -39,9 +37,6 @@ loop-again c = search needs
 returns : tie.Need-returns Inv-loop μ-loop
 returns c = search needs
 
-returns-2 : tie.Need-returns-2 Inv-loop μ-loop
-returns-2 c = search needs
-
 pub lines-spec : {M : Type 1} → statement M
 lines-spec =
     tie.close
@@ -49,12 +44,11 @@ lines-spec =
     Inv-loop
     μ-loop
     loop-holds
-    shared-slice-read-if2
+    byte-at-requires
     between-requires
     add-from
     after-requires
     add-i
     loop-less
     loop-again
-    returns
-    returns-2)
+    returns)

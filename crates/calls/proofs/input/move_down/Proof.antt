@@ -3,7 +3,6 @@ use borrow.Author.Needs.{needs}
 use Prim.Native.Nat.{_-_, _≤_}
 use Rattle.calls.proofs.input.move_down.Statement.{statement}
 use Rattle.calls.proofs.input.move_down.Tie as tie
-use Rattle.calls.proofs.input.copy.Reads as copy-reads
 
 abbrev Inv-loop : tie.InvT-loop
 Inv-loop text₀ from end i₀ j₀ text i j = i ≤ j

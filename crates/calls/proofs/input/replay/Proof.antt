@@ -2,9 +2,6 @@
 use borrow.Author.Needs.{needs}
 use Rattle.calls.proofs.input.replay.Statement.{statement}
 use Rattle.calls.proofs.input.replay.Tie as tie
-use Rattle.calls.proofs.input.rest.Reads as rest-reads
-use Rattle.calls.proofs.input.turn.Reads as turn-reads
-use Rattle.calls.proofs.out.flush.Reads as flush-reads
 
 abbrev Inv-loop : tie.InvT-loop
 Inv-loop fd name text₀ out₀ s₀ turns₀ text out s turns = Unit {0}

@@ -5,9 +5,6 @@ use Prim.Native.Nat.{_-_}
 use lib.ListN.{length}
 use Rattle.calls.proofs.numbers.samples.Statement.{statement}
 use Rattle.calls.proofs.numbers.samples.Tie as tie
-use Rattle.calls.proofs.numbers.count_of.Reads as count-of-reads
-use Rattle.calls.proofs.numbers.item.Reads as item-reads
-use Rattle.calls.proofs.numbers.sample_of.Reads as sample-of-reads
 
 abbrev Inv-loop : tie.InvT-loop
 Inv-loop n room to₀ count i₀ to i = length to ≡ length to₀

@@ -5,9 +5,6 @@ use Prim.Native.Nat.{_-_}
 use lib.ListN.{length}
 use Rattle.calls.proofs.numbers.shorts.Statement.{statement}
 use Rattle.calls.proofs.numbers.shorts.Tie as tie
-use Rattle.calls.proofs.numbers.count_of.Reads as count-of-reads
-use Rattle.calls.proofs.numbers.item.Reads as item-reads
-use Rattle.calls.proofs.numbers.short_of.Reads as short-of-reads
 
 abbrev Inv-loop : tie.InvT-loop
 Inv-loop n to₀ count i₀ to i = length to ≡ length to₀

@@ -4,8 +4,6 @@ use Prim.Native.Nat.{_-_}
 use lib.ListN.{length}
 use Rattle.calls.proofs.out.row.Statement.{statement}
 use Rattle.calls.proofs.out.row.Tie as tie
-use Rattle.calls.proofs.out.after.Reads as after-reads
-use Rattle.calls.proofs.out.byte.Reads as byte-reads
 
 abbrev Inv-loop : tie.InvT-loop
 Inv-loop out₀ used s tag column n₀ first₀ at₀ i₀ out n first at i = Unit {0}

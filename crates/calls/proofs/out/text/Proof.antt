@@ -4,7 +4,6 @@ use Prim.Native.Nat.{_-_}
 use lib.ListN.{length}
 use Rattle.calls.proofs.out.text.Statement.{statement}
 use Rattle.calls.proofs.out.text.Tie as tie
-use Rattle.calls.proofs.out.byte.Reads as byte-reads
 
 abbrev Inv-loop : tie.InvT-loop
 Inv-loop out₀ used s n₀ i₀ out n i = Unit {0}

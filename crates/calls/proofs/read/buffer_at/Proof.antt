@@ -3,11 +3,6 @@ use borrow.Author.Needs.{needs}
 use Prim.Native.Nat.{_-_}
 use Rattle.calls.proofs.read.buffer_at.Statement.{statement}
 use Rattle.calls.proofs.read.buffer_at.Tie as tie
-use Rattle.calls.proofs.numbers.put.Reads as put-reads
-use Rattle.calls.proofs.read.element.Reads as element-reads
-use Rattle.calls.proofs.read.length_at.Reads as length-at-reads
-use Rattle.calls.proofs.read.next.Reads as next-reads
-use Rattle.calls.proofs.read.room.Reads as room-reads
 
 abbrev Inv-loop : tie.InvT-loop
 Inv-loop line at kind n₀ from item r₀ count i₀ n r i = Unit {0}

@@ -3,10 +3,6 @@ use borrow.Author.Needs.{needs}
 use Prim.Native.Nat.{_-_}
 use Rattle.calls.proofs.read.read.Statement.{statement}
 use Rattle.calls.proofs.read.read.Tie as tie
-use Rattle.calls.proofs.read.ended.Reads as ended-reads
-use Rattle.calls.proofs.read.faulty.Reads as faulty-reads
-use Rattle.calls.proofs.read.kind_at.Reads as kind-at-reads
-use Rattle.calls.proofs.read.part_at.Reads as part-at-reads
 
 abbrev Inv-loop : tie.InvT-loop
 Inv-loop line at table kinds n₀ r₀ i₀ n r i = Unit {0}

@@ -4,14 +4,12 @@ use Prim.Native.Nat.{_-_}
 use lib.ListN.{length}
 use Rattle.calls.proofs.token.digits_at.Statement.{statement}
 use Rattle.calls.proofs.token.digits_at.Tie as tie
-use Rattle.calls.proofs.token.digit.Reads as digit-reads
-use Rattle.calls.proofs.token.with_digit.Reads as with-digit-reads
 
 abbrev Inv-loop : tie.InvT-loop
-Inv-loop line at size₀ large₀ i₀ size large i = Unit {0}
+Inv-loop line at size₀ fault₀ i₀ size fault i = Unit {0}
 
 abbrev μ-loop : tie.MeasureT-loop
-μ-loop line at size₀ large₀ i₀ size large i = length line - i
+μ-loop line at size₀ fault₀ i₀ size fault i = length line - i
 
 loop-holds : tie.Need-loop-holds Inv-loop μ-loop
 loop-holds c = search needs

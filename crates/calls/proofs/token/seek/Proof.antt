@@ -4,7 +4,6 @@ use Prim.Native.Nat.{_-_}
 use lib.ListN.{length}
 use Rattle.calls.proofs.token.seek.Statement.{statement}
 use Rattle.calls.proofs.token.seek.Tie as tie
-use Rattle.calls.proofs.token.is_blank.Reads as is-blank-reads
 
 abbrev Inv-loop : tie.InvT-loop
 Inv-loop line at blank i₀ i = Unit {0}
