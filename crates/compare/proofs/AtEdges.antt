@@ -25,7 +25,8 @@ use Rattle.planes.specs.Blocks.{cell}
 use Rattle.planes.proofs.Planes.{well-formed}
 use Rattle.planes.proofs.Far.{not-past}
 use Rattle.planes.proofs.Replies.{Alike}
-use Rattle.compare.specs.Edges.{edgeCell, edged, EdgesIn, Plain}
+use Rattle.compare.specs.Edges.{edgeCell, EdgesIn}
+use Rattle.compare.proofs.Marked.{samples}
 
 -- a position that doesn't reach past a side reads below it
 edge-below : (x : ℤ) (w i side : ℕ) → 1 ≤ side → i < w → up x + w ≤ side + dn x → edge (x +ℤ pos i) < side
@@ -58,7 +59,7 @@ edges-in n width height stride x y w h p q e =
     }
 
 -- the definitions read the same
-pub edges-alike : (l : List ℕ) (width height stride : ℕ) (x y : ℤ) (w h depth : ℕ) → Alike w h (edged l stride x y depth) (atEdges (planeOf l width height stride) x y w h depth)
+pub edges-alike : (l : List ℕ) (width height stride : ℕ) (x y : ℤ) (w h depth : ℕ) → Alike w h (samples depth (edgeCell l stride x y)) (atEdges (planeOf l width height stride) x y w h depth)
 unfolding edgeCell
 edges-alike l width height stride x y w h depth = record { reads = λ j i p q. refl; bad = λ v. refl }
 
@@ -68,6 +69,11 @@ as-bits P f g p = subst₂ P (sym (toZ-ofZ f)) (sym (toZ-ofZ g)) p
 
 pub of-bits : (P : ℤ → ℤ → Type 0) {x y : ℤ} → SFits w16 x → SFits w16 y → P (toZ w16 (ofZ w16 x)) (toZ w16 (ofZ w16 y)) → P x y
 of-bits P f g p = subst₂ P (toZ-ofZ f) (toZ-ofZ g) p
+
+-- neither position is negative
+pub record Plain (x y : ℤ) : Type 0 where
+  pub across : pos 0 ≤ℤ x
+  pub down : pos 0 ≤ℤ y
 
 pub is-plain : (x y : ℤ) → ltZ x (pos 0) || ltZ y (pos 0) ≡ false → Plain x y
 is-plain x y e =

@@ -72,7 +72,7 @@ compared-ext {w} {h} {s} {m} {f} {g} f′ g′ t p q =
     (λ j n. sum-ext ofOr w (g j) (g′ j) (λ i k. q j i n k))
 
 -- what is told of two rows, said of what they read: F and G
-pub told-at :
+told-at :
     {A B : Type 0} (f g : A → B → ℕ) (d : A) (e : B) (w : ℕ) (F : ℕ → A) (G : ℕ → B) {x y : ℕ} (p : List A) (q : List B) → ((i : ℕ) → i < w → getD p i d ≡ F i) →
     ((i : ℕ) → i < w → getD q i e ≡ G i) → Told w (λ i. f (getD p i d) (getD q i e)) (λ i. g (getD p i d) (getD q i e)) x y →
     Told w (λ i. f (F i) (G i)) (λ i. g (F i) (G i)) x y

@@ -1,21 +1,15 @@
 -- Samples at positions that may be negative. Cited by the contracts of src/edges.rt and of the crates that compare blocks there. Assumes
 -- nothing.
-use mathlib.Core.Bool.{false}
 use mathlib.Core.List.{List}
 use Prim.Native.Nat.{ℕ, suc, _+_, _*_, _≤_, _<_}
 use lib.IntN.{ℤ, pos, negsuc, _+ℤ_}
-use lib.Signed.{_≤ℤ_}
 use lib.ListN.{getD}
 use Rattle.order.specs.Positions.{reach}
-use Rattle.evc.specs.Planes.{Block, edge, tooLarge}
+use Rattle.evc.specs.Planes.{edge}
 
 -- what row j, column i of the block at (x, y) reads in a plane
 unfoldable pub edgeCell : List ℕ → ℕ → ℤ → ℤ → ℕ → ℕ → ℕ
 edgeCell l stride x y j i = getD l (edge (y +ℤ pos j) * stride + edge (x +ℤ pos i)) 0
-
--- such a block
-abbrev pub edged : List ℕ → ℕ → ℤ → ℤ → ℕ → Block
-edged l stride x y depth = record { area = false; reads = λ j i. pos (edgeCell l stride x y j i); bad = tooLarge depth }
 
 -- how far x lies below 0
 abbrev pub behind : ℤ → ℕ
@@ -40,8 +34,3 @@ pub record EdgesIn (n stride : ℕ) (x y : ℤ) (w h : ℕ) : Type 0 where
 pub record AtEdges (w h m start stride n stride′ : ℕ) (x y : ℤ) : Type 0 where
   pub one : reach start w stride h ≤ m
   pub two : EdgesIn n stride′ x y w h
-
--- neither position is negative
-pub record Plain (x y : ℤ) : Type 0 where
-  pub across : pos 0 ≤ℤ x
-  pub down : pos 0 ≤ℤ y

@@ -59,6 +59,7 @@ pub(crate) fn sad_block(
         16 => sad_rows(a, a_at, a_stride, b, b_at, b_stride, 16, h),
         8 => sad_rows(a, a_at, a_stride, b, b_at, b_stride, 8, h),
         4 => sad_rows(a, a_at, a_stride, b, b_at, b_stride, 4, h),
+        2 => sad_rows(a, a_at, a_stride, b, b_at, b_stride, 2, h),
         _ => sad_rows(a, a_at, a_stride, b, b_at, b_stride, w, h),
     }
 }

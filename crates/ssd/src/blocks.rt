@@ -65,6 +65,7 @@ pub(crate) fn ssd_block(
         16 => ssd_rows(a, a_at, a_stride, b, b_at, b_stride, 16, h, depth),
         8 => ssd_rows(a, a_at, a_stride, b, b_at, b_stride, 8, h, depth),
         4 => ssd_rows(a, a_at, a_stride, b, b_at, b_stride, 4, h, depth),
+        2 => ssd_rows(a, a_at, a_stride, b, b_at, b_stride, 2, h, depth),
         _ => ssd_rows(a, a_at, a_stride, b, b_at, b_stride, w, h, depth),
     }
 }

@@ -11,8 +11,8 @@ use mir.Val.{toZ, ofZ}
 use mir.Facts.{toZ-ofZ}
 use Rattle.evc.specs.Planes.{edge}
 use Rattle.planes.specs.Blocks.{cell}
-use Rattle.compare.specs.Edges.{edgeCell, Plain}
-use Rattle.compare.proofs.AtEdges.{of-bits, is-plain, plain-at, plain-inside}
+use Rattle.compare.specs.Edges.{edgeCell}
+use Rattle.compare.proofs.AtEdges.{of-bits, Plain, is-plain, plain-at, plain-inside}
 use borrow.Author.Needs.{needs}
 use Rattle.bi.specs.Totals.{BiCounted}
 use Rattle.bi.proofs.Ends.{counted-all, counted-ext}

@@ -34,6 +34,9 @@ sad-rows-requires-6 c κs = search needs
 sad-rows-requires-7 : tie.Need-sad-rows-requires-7
 sad-rows-requires-7 c κs = search needs
 
+sad-rows-requires-8 : tie.Need-sad-rows-requires-8
+sad-rows-requires-8 c κs = search needs
+
 returns-2 : tie.Need-returns-2
 returns-2 c = compared-at _ 64 _ _ _ (c .before .match .keys1) (c .sad-rows2 .ensures)
 
@@ -50,7 +53,10 @@ returns-6 : tie.Need-returns-6
 returns-6 c = compared-at _ 4 _ _ _ (c .before .match .keys5) (c .sad-rows6 .ensures)
 
 returns-7 : tie.Need-returns-7
-returns-7 c = search needs
+returns-7 c = compared-at _ 2 _ _ _ (c .before .match .keys6) (c .sad-rows7 .ensures)
+
+returns-8 : tie.Need-returns-8
+returns-8 c = search needs
 
 pub sad-block-spec : {M : Type 1} → statement M
 sad-block-spec =
@@ -64,9 +70,11 @@ sad-block-spec =
     sad-rows-requires-5
     sad-rows-requires-6
     sad-rows-requires-7
+    sad-rows-requires-8
     returns-2
     returns-3
     returns-4
     returns-5
     returns-6
-    returns-7)
+    returns-7
+    returns-8)

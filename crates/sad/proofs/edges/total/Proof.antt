@@ -11,9 +11,9 @@ use mir.Facts.{toZ-ofZ}
 use Rattle.evc.specs.Planes.{edge}
 use Rattle.planes.specs.Blocks.{cell}
 use Rattle.compare.specs.Totals.{BlocksTold, apart}
-use Rattle.compare.specs.Edges.{edgeCell, Plain}
+use Rattle.compare.specs.Edges.{edgeCell}
 use Rattle.compare.proofs.Cells.{compared-ext}
-use Rattle.compare.proofs.AtEdges.{of-bits, is-plain, plain-at, plain-inside}
+use Rattle.compare.proofs.AtEdges.{of-bits, Plain, is-plain, plain-at, plain-inside}
 use borrow.Author.Needs.{needs}
 use Rattle.sad.proofs.edges.total.Statement.{statement}
 use Rattle.sad.proofs.edges.total.Tie as tie

@@ -11,9 +11,9 @@ use lib.Signed.{ltZ}
 use mir.Facts.{toZ-ofZ}
 use Rattle.evc.specs.Planes.{edge}
 use Rattle.compare.specs.Totals.{BlocksTold}
-use Rattle.compare.specs.Edges.{edgeCell, Plain}
+use Rattle.compare.specs.Edges.{edgeCell}
 use Rattle.compare.proofs.Cells.{compared-ext}
-use Rattle.compare.proofs.AtEdges.{of-bits, is-plain, plain-at, plain-inside}
+use Rattle.compare.proofs.AtEdges.{of-bits, Plain, is-plain, plain-at, plain-inside}
 use Rattle.ssd.specs.Squares.{squaredLow}
 use Rattle.ssd.proofs.edges.total.Statement.{statement}
 use Rattle.ssd.proofs.edges.total.Tie as tie
