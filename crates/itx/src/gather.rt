@@ -20,7 +20,7 @@ pub(crate) fn gather_i32(src: &[i32], x: &mut [i64], n: usize, l: usize, j: usiz
     requires { ⌜ (length (now x) ≡ n) × ((j < l) × (n * l ≤ length (now src))) ⌝ }
     ensures { λ _. ⌜ Gathered (now (x .exit)) (now (src .entry)) n n l j ⌝ }
 {
-    for k in 0..n {
-        x[k] = src[k * l + j] as i64;
+    for i in 0..n {
+        x[i] = src[i * l + j] as i64;
     }
 }

@@ -47,3 +47,6 @@ module _ (e : List ℤ) (j k : ℕ) (v : ℤ) (hj : j < 16) (hk : k < 64) (room 
 
 pub kept-then : {a b c : List ℤ} {j : ℕ} → Kept a b j → Kept b c j → Kept a c j
 kept-then h k = record { long = k .long ∙ h .long; other = λ i p f. k .other i p f ∙ h .other i p f }
+
+pub kept-none : {a : List ℤ} {j : ℕ} → Kept a a j
+kept-none = record { long = refl; other = λ i p f. refl }

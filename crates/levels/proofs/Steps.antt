@@ -17,7 +17,7 @@ use Rattle.halving.specs.Line.{line, rows, dot, odd, Inputs, Table, Level, Sums
 use Rattle.halving.proofs.Bounds.{odd-step, odd-multiple}
 use Rattle.halving.proofs.Step.{none, more, two}
 use Rattle.halving.proofs.Instance.{own-table}
-use Rattle.levels.specs.Steps.{laneList, T, half, Narrow, Within64, Picked, Picks, More, Lane, Halving, OfLane, Ready, Kept, Moved, All, Sized}
+use Rattle.levels.specs.Steps.{laneList, T, half, Narrow, Within64, Picked, Picks, More, Lane, Halving, OfLane, Given, Ready, Kept, Moved, All, Sized}
 use Rattle.levels.proofs.AsLine.{lane-length, lane-at, lane-set, kept-set, kept-then}
 use Rattle.levels.proofs.Bounds.{term, entry-within, input-within, dot-within, half-within, most, stride}
 
@@ -117,11 +117,6 @@ module _ (s : List ℤ) (q k n j : ℕ) (h : Within64 q (k + 1) n j) where
       (within-mono (omega (arith, most q (k + 1) (h .some) (h .rows)))
       (half-within g (h .among) q k n (h .some) (omega (arith, h .rows)) (h .column)))
 
-  pub one-more : (t : List ℤ) (z : ℤ) → t ≡ flat → z ≡ half s j q k n → z +ℤ getD t ((2 * k + 1) * q * 64 + n) (pos 0) *ℤ getD s ((2 * k + 1) * q * 16 + j) (pos 0) ≡ half s j q (k + 1) n
-  one-more t z et ez =
-      ap₂ _+ℤ_ ez (ap₂ _*ℤ_ (ap (λ (l : List ℤ). getD l ((2 * k + 1) * q * 64 + n) (pos 0)) et) (sym (lane-at s j ((2 * k + 1) * q) row)))
-      ∙ odd-step T q k n (line (laneList s j))
-
 -- no term
 pub half-none : (s : List ℤ) (j q n : ℕ) → pos 0 ≡ half s j q 0 n
 unfolding odd
@@ -164,6 +159,31 @@ module _ {t s x : List ℤ} {z : ℤ} {q k n j : ℕ} (r : More t s x z q k 1 n 
       (ap₂ _*ℤ_ (ap (λ (l : List ℤ). getD l ((2 * k + 1) * q * 64 + n) (pos 0)) (r .table))
       (r .picked .at k (omega (arith, r .room)) ∙ ap (λ (i : ℕ). line (laneList s j) (i * q)) e))
       ∙ odd-step T q k n (line (laneList s j))
+
+-- all terms of a place
+pub all-terms : {t s x e : List ℤ} {m n j : ℕ} (k : ℕ) → Given t s x e m n j → k < m → More t s x (pos 0) (32 / m) 0 m k j
+all-terms {t} {s} {x} {e} {m} {n} {j} k g h =
+    let l = g .lane .level in
+    let q = stride m (32 / m) (l .whole) in
+    let u : m ≤ 32 = most (32 / m) m q (omega (arith, l .whole)) in
+    record {
+      table = g .table;
+      narrow = l .narrow;
+      inside = record { some = q; rows = rw (zero-add m) (omega (arith, l .whole)); column = omega arith; among = g .lane .among };
+      room = omega (arith, g .picks .long);
+      picked = g .picks .picked;
+      so-far = half-none s j (32 / m) k;
+    }
+
+-- fewer rows
+pub fewer : {q m n j : ℕ} (k : ℕ) → Within64 q m n j → k ≤ m → Within64 q k n j
+fewer {q} {m} k w h =
+    record {
+      some = w .some;
+      rows = le-trans (mul-le-mul-right {m = k + k} {n = m + m} q (omega arith)) (w .rows);
+      column = w .column;
+      among = w .among;
+    }
 
 -- the inputs that `pick` reads
 pub picks-of : (s : List ℤ) (q m j : ℕ) {x : List ℤ} → x ≡ tab m (λ k. line (laneList s j) (suc (k + k) * q)) → Picks x s q m j

@@ -1,4 +1,4 @@
--- What the helpers promise each other. A lane is seen as a line of 64 numbers, so that the records of the halving (itx, specs/Line.antt) speak
+-- What the helpers promise each other. A lane is seen as a line of 64 numbers, so that the records of the halving (halving, specs/Line.antt) speak
 -- of it: size m, on its way to 2m, has the stride 32/m in the 64 by 64 table. Assumes nothing.
 use mathlib.Core.Path.{_≡_}
 use mathlib.Core.Logic.{_≢_}
@@ -43,14 +43,7 @@ pub record Picks (x s : List ℤ) (q m j : ℕ) : Type 0 where
   pub long : length x ≡ m
   pub picked : Picked x s q j
 
--- k terms of the odd half are added, and one more can be
-pub record One (t s : List ℤ) (z : ℤ) (q k n j : ℕ) : Type 0 where
-  pub table : t ≡ flat
-  pub narrow : Narrow s
-  pub inside : Within64 q (k + 1) n j
-  pub so-far : z ≡ half s j q k n
-
--- the same, and m more, from the picked inputs
+-- k terms of the odd half are added, and m more can be, from the picked inputs
 pub record More (t s x : List ℤ) (z : ℤ) (q k m n j : ℕ) : Type 0 where
   pub table : t ≡ flat
   pub narrow : Narrow s

@@ -21,14 +21,14 @@ Inv-loop src x₀ n l j k₀ x k = (k ≤ n) × Gathered x src n k l j
 abbrev μ-loop : tie.MeasureT-loop
 μ-loop src x₀ n l j k₀ x k = n - k
 
-within : (c : tie.In-loop Inv-loop μ-loop) → c .before .loop .k * c .before .before .args .l + c .before .before .args .j < length (c .before .before .args .src .now)
+within : (c : tie.In-loop Inv-loop μ-loop) → c .before .loop .i * c .before .before .args .l + c .before .before .args .j < length (c .before .before .args .src .now)
 within c =
     let a = c .before .before .args in
-    place (c .before .loop .k) (a .l) (a .j) (a .n) _ (c .loop-test .taken) (c .before .before .pre .1 .0) (c .before .before .pre .1 .1)
+    place (c .before .loop .i) (a .l) (a .j) (a .n) _ (c .loop-test .taken) (c .before .before .pre .1 .0) (c .before .before .pre .1 .1)
 
 module _ (c : tie.After-x Inv-loop μ-loop) where
   abbrev val : ℤ
-  val = getD (c .before .before .before .args .src .now) (c .before .before .loop .k * c .before .before .before .args .l + c .before .before .before .args .j) (pos 0)
+  val = getD (c .before .before .before .args .src .now) (c .before .before .loop .i * c .before .before .before .args .l + c .before .before .before .args .j) (pos 0)
 
   fits : SFits w32 val
   fits = sfits-of (c .x .given)
@@ -60,8 +60,8 @@ mul-t14 c = omega (arith, c .before .before .loop .inv .1 .long)
 slice-set-from-x : tie.Need-slice-set-from-x Inv-loop μ-loop
 slice-set-from-x c = omega (arith, c .before .before .loop .inv .1 .long)
 
-add-k : tie.Need-add-k Inv-loop μ-loop
-add-k c = omega arith
+add-i : tie.Need-add-i Inv-loop μ-loop
+add-i c = omega arith
 
 loop-less : tie.Need-loop-less Inv-loop μ-loop
 loop-less c = omega arith
@@ -95,7 +95,7 @@ gather-i32-spec =
     cast-x
     mul-t14
     slice-set-from-x
-    add-k
+    add-i
     loop-less
     loop-again
     same-length

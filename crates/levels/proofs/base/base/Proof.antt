@@ -1,8 +1,8 @@
 -- `levels::base::base` meets its contract: lane after lane, from nothing to size 8. Assumes nothing.
-use mathlib.Core.Path.{_≡_, refl, _∙_}
+use mathlib.Core.Path.{_≡_, refl, sym, _∙_}
 use Prim.Native.Nat.{_-_}
 use native.Mathlib.Omega.{arith}
-use lib.Dec.{lit≤}
+use lib.Dec.{lit<, lit≤}
 use lib.ListN.{length}
 use Rattle.halving.proofs.Step.{none, all}
 use Rattle.levels.proofs.AsLine.{lane-length, kept-then}
@@ -32,21 +32,48 @@ lane2-requires c κs =
       c .before .before .loop-test .taken,
     )
 
-lane4-requires : tie.Need-lane4-requires Inv-loop μ-loop
-lane4-requires c κs = (c .before .before .before .before .before .before .before .before .table .ensures, c .before .before .before .lane2 .ensures .lane)
+slice-aggregate-pick : tie.Need-slice-aggregate-pick Inv-loop μ-loop
+slice-aggregate-pick c = refl
 
-lane8-requires : tie.Need-lane8-requires Inv-loop μ-loop
-lane8-requires c κs =
-    let s = c .before .before .before .before .before .before .before .before .before .before .before .before .before in
-    let l = c .before .before .before .before .before .before .before .before .before .before .before .loop .inv .long in
-    let two = c .before .before .before .before .before .before .before .lane2 .ensures in
-    let four = c .before .before .before .lane4 .ensures in (
-      c .before .before .before .before .before .before .before .before .before .before .before .before .table .ensures,
+pick-requires : tie.Need-pick-requires Inv-loop μ-loop
+pick-requires c κs = (refl, record { some = lit< tt; rows = lit≤ tt; column = lit< tt; among = c .before .before .lane2 .ensures .lane .among })
+
+slice-aggregate-places : tie.Need-slice-aggregate-places Inv-loop μ-loop
+slice-aggregate-places c = sym (c .before .before .before .pick .ensures .long)
+
+places-requires : tie.Need-places-requires Inv-loop μ-loop
+places-requires c κs =
+    let two = c .before .before .before .before .before .before .before .lane2 .ensures in (
+      record { table = c .before .before .before .before .before .before .before .before .before .before .before .before .table .ensures; lane = two .lane; picks = c .before .before .before .before .pick .ensures },
+      (lit≤ tt, lit≤ tt),
+    )
+
+slice-aggregate-pick-2 : tie.Need-slice-aggregate-pick-2 Inv-loop μ-loop
+slice-aggregate-pick-2 c = refl
+
+pick-requires-2 : tie.Need-pick-requires-2 Inv-loop μ-loop
+pick-requires-2 c κs = (refl, record { some = lit< tt; rows = lit≤ tt; column = lit< tt; among = c .before .before .places .ensures .lane .among })
+
+slice-aggregate-places-2 : tie.Need-slice-aggregate-places-2 Inv-loop μ-loop
+slice-aggregate-places-2 c = sym (c .before .before .before .pick2 .ensures .long)
+
+places-requires-2 : tie.Need-places-requires-2 Inv-loop μ-loop
+places-requires-2 c κs =
+    let s = c .before .before .before .before .before .before .before .before .before .before .before .before .before .before .before .before .before .before .before .before .before in
+    let l = c .before .before .before .before .before .before .before .before .before .before .before .before .before .before .before .before .before .before .before .loop .inv .long in
+    let two = c .before .before .before .before .before .before .before .before .before .before .before .before .before .before .before .lane2 .ensures in
+    let four = c .before .before .before .before .before .before .before .places .ensures in (
       record {
-        level = record { narrow = s .pre .0; whole = refl; size = lit≤ tt; room = omega (arith, l, s .pre .1, two .kept .long, four .kept .long) };
-        among = four .lane .among;
-        part = none (all (four .lane .part));
+        table = c .before .before .before .before .before .before .before .before .before .before .before .before .before .before .before .before .before .before .before .before .table .ensures;
+        lane =
+            record {
+              level = record { narrow = s .pre .0; whole = refl; size = lit≤ tt; room = omega (arith, l, s .pre .1, two .kept .long, four .kept .long) };
+              among = four .lane .among;
+              part = none (all (four .lane .part));
+            };
+        picks = c .before .before .before .before .pick2 .ensures;
       },
+      (lit≤ tt, lit≤ tt),
     )
 
 add-j : tie.Need-add-j Inv-loop μ-loop
@@ -57,11 +84,10 @@ loop-less c = omega arith
 
 loop-again : tie.Need-loop-again Inv-loop μ-loop
 loop-again c =
-    let two = c .before .before .before .before .before .before .before .before .before .lane2 .ensures in
-    let four = c .before .before .before .before .before .lane4 .ensures in
-    let eight = c .before .lane8 .ensures in
-    passed-more (c .before .before .before .before .before .before .before .before .before .before .before .before .before .loop .inv) (eight .lane .among)
-    (kept-then (two .kept) (kept-then (four .kept) (eight .kept))) (eight .lane .part)
+    let two = c .before .before .before .before .before .before .before .before .before .before .before .before .before .before .before .before .before .lane2 .ensures in
+    let four = c .before .before .before .before .before .before .before .before .before .places .ensures in
+    let eight = c .before .places2 .ensures in
+    passed-more (c .before .before .before .before .before .before .before .before .before .before .before .before .before .before .before .before .before .before .before .before .before .loop .inv) (eight .lane .among) (kept-then (two .kept) (kept-then (four .kept) (eight .kept))) (eight .lane .part)
 
 same-length : tie.Need-same-length Inv-loop μ-loop
 same-length c = c .before .loop .inv .long
@@ -78,8 +104,14 @@ base-spec =
     table-requires
     loop-holds
     lane2-requires
-    lane4-requires
-    lane8-requires
+    slice-aggregate-pick
+    pick-requires
+    slice-aggregate-places
+    places-requires
+    slice-aggregate-pick-2
+    pick-requires-2
+    slice-aggregate-places-2
+    places-requires-2
     add-j
     loop-less
     loop-again

@@ -1,8 +1,9 @@
 -- `levels::level16::rows16_8` meets its contract: lane after lane. Written by tools/levels.py.
 -- Assumes nothing.
-use mathlib.Core.Path.{sym}
+use mathlib.Core.Path.{refl, sym}
 use Prim.Native.Nat.{_-_}
 use native.Mathlib.Omega.{arith}
+use lib.Dec.{lit<, lit≤}
 use Rattle.levels.proofs.AsLine.{kept-then}
 use Rattle.levels.proofs.Passes.{Places, Passed, passed-none, passed-more, next-lane, passed-all}
 use Rattle.levels.proofs.level16.rows16_8.Statement.{statement}
@@ -20,20 +21,23 @@ table-requires c κs = tt
 loop-holds : tie.Need-loop-holds Inv-loop μ-loop
 loop-holds c = passed-none (c .before .pre .part)
 
-pick16-requires : tie.Need-pick16-requires Inv-loop μ-loop
-pick16-requires c κs = c .loop-test .taken
+slice-aggregate-pick : tie.Need-slice-aggregate-pick Inv-loop μ-loop
+slice-aggregate-pick c = refl
 
-slice-aggregate-lane16-8 : tie.Need-slice-aggregate-lane16-8 Inv-loop μ-loop
-slice-aggregate-lane16-8 c = sym (c .before .before .pick16 .ensures .long)
+pick-requires : tie.Need-pick-requires Inv-loop μ-loop
+pick-requires c κs = (refl, record { some = lit< tt; rows = lit≤ tt; column = lit< tt; among = c .before .loop-test .taken })
 
-lane16-8-requires : tie.Need-lane16-8-requires Inv-loop μ-loop
-lane16-8-requires c κs = record { table = c .before .before .before .before .before .before .table .ensures; lane = next-lane (c .before .before .before .before .before .before .before .pre .level) (c .before .before .before .before .before .loop .inv) (c .before .before .before .before .loop-test .taken); picks = c .before .before .before .pick16 .ensures }
+slice-aggregate-places : tie.Need-slice-aggregate-places Inv-loop μ-loop
+slice-aggregate-places c = sym (c .before .before .before .pick .ensures .long)
 
-slice-aggregate-lane16-12 : tie.Need-slice-aggregate-lane16-12 Inv-loop μ-loop
-slice-aggregate-lane16-12 c = sym (c .before .before .before .before .before .before .before .pick16 .ensures .long)
+places-requires : tie.Need-places-requires Inv-loop μ-loop
+places-requires c κs = (record { table = c .before .before .before .before .before .before .before .before .table .ensures; lane = next-lane (c .before .before .before .before .before .before .before .before .before .pre .level) (c .before .before .before .before .before .before .before .loop .inv) (c .before .before .before .before .before .before .loop-test .taken); picks = c .before .before .before .before .pick .ensures }, (lit≤ tt, lit≤ tt))
 
-lane16-12-requires : tie.Need-lane16-12-requires Inv-loop μ-loop
-lane16-12-requires c κs = record { table = c .before .before .before .before .before .before .before .before .before .before .before .table .ensures; lane = c .before .before .before .before .lane16-8 .ensures .lane; picks = c .before .before .before .before .before .before .before .before .pick16 .ensures }
+slice-aggregate-places-2 : tie.Need-slice-aggregate-places-2 Inv-loop μ-loop
+slice-aggregate-places-2 c = sym (c .before .before .before .before .before .before .before .before .pick .ensures .long)
+
+places-requires-2 : tie.Need-places-requires-2 Inv-loop μ-loop
+places-requires-2 c κs = (record { table = c .before .before .before .before .before .before .before .before .before .before .before .before .before .table .ensures; lane = c .before .before .before .before .places .ensures .lane; picks = c .before .before .before .before .before .before .before .before .before .pick .ensures }, (lit≤ tt, lit≤ tt))
 
 add-j : tie.Need-add-j Inv-loop μ-loop
 add-j c = omega arith
@@ -42,7 +46,7 @@ loop-less : tie.Need-loop-less Inv-loop μ-loop
 loop-less c = omega arith
 
 loop-again : tie.Need-loop-again Inv-loop μ-loop
-loop-again c = passed-more (c .before .before .before .before .before .before .before .before .before .before .before .before .loop .inv) (c .before .before .before .before .before .before .before .before .before .before .before .loop-test .taken) (kept-then (c .before .before .before .before .before .before .lane16-8 .ensures .kept) (c .before .lane16-12 .ensures .kept)) (c .before .lane16-12 .ensures .lane .part)
+loop-again c = passed-more (c .before .before .before .before .before .before .before .before .before .before .before .before .before .before .loop .inv) (c .before .before .before .before .before .before .before .before .before .before .before .before .before .loop-test .taken) (kept-then (c .before .before .before .before .before .before .places .ensures .kept) (c .before .places2 .ensures .kept)) (c .before .places2 .ensures .lane .part)
 
 same-length : tie.Need-same-length Inv-loop μ-loop
 same-length c = c .before .loop .inv .long
@@ -58,11 +62,12 @@ rows16-8-spec =
     μ-loop
     table-requires
     loop-holds
-    pick16-requires
-    slice-aggregate-lane16-8
-    lane16-8-requires
-    slice-aggregate-lane16-12
-    lane16-12-requires
+    slice-aggregate-pick
+    pick-requires
+    slice-aggregate-places
+    places-requires
+    slice-aggregate-places-2
+    places-requires-2
     add-j
     loop-less
     loop-again

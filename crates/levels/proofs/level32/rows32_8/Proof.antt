@@ -1,8 +1,9 @@
 -- `levels::level32::rows32_8` meets its contract: lane after lane. Written by tools/levels.py.
 -- Assumes nothing.
-use mathlib.Core.Path.{sym}
+use mathlib.Core.Path.{refl, sym}
 use Prim.Native.Nat.{_-_}
 use native.Mathlib.Omega.{arith}
+use lib.Dec.{lit<, lit≤}
 use Rattle.levels.proofs.AsLine.{kept-then}
 use Rattle.levels.proofs.Passes.{Places, Passed, passed-none, passed-more, next-lane, passed-all}
 use Rattle.levels.proofs.level32.rows32_8.Statement.{statement}
@@ -20,20 +21,35 @@ table-requires c κs = tt
 loop-holds : tie.Need-loop-holds Inv-loop μ-loop
 loop-holds c = passed-none (c .before .pre .part)
 
-pick32-requires : tie.Need-pick32-requires Inv-loop μ-loop
-pick32-requires c κs = c .loop-test .taken
+slice-aggregate-pick : tie.Need-slice-aggregate-pick Inv-loop μ-loop
+slice-aggregate-pick c = refl
 
-slice-aggregate-lane32-8 : tie.Need-slice-aggregate-lane32-8 Inv-loop μ-loop
-slice-aggregate-lane32-8 c = sym (c .before .before .pick32 .ensures .long)
+pick-requires : tie.Need-pick-requires Inv-loop μ-loop
+pick-requires c κs = (refl, record { some = lit< tt; rows = lit≤ tt; column = lit< tt; among = c .before .loop-test .taken })
 
-lane32-8-requires : tie.Need-lane32-8-requires Inv-loop μ-loop
-lane32-8-requires c κs = record { table = c .before .before .before .before .before .before .table .ensures; lane = next-lane (c .before .before .before .before .before .before .before .pre .level) (c .before .before .before .before .before .loop .inv) (c .before .before .before .before .loop-test .taken); picks = c .before .before .before .pick32 .ensures }
+slice-aggregate-places : tie.Need-slice-aggregate-places Inv-loop μ-loop
+slice-aggregate-places c = sym (c .before .before .before .pick .ensures .long)
 
-slice-aggregate-lane32-12 : tie.Need-slice-aggregate-lane32-12 Inv-loop μ-loop
-slice-aggregate-lane32-12 c = sym (c .before .before .before .before .before .before .before .pick32 .ensures .long)
+places-requires : tie.Need-places-requires Inv-loop μ-loop
+places-requires c κs = (record { table = c .before .before .before .before .before .before .before .before .table .ensures; lane = next-lane (c .before .before .before .before .before .before .before .before .before .pre .level) (c .before .before .before .before .before .before .before .loop .inv) (c .before .before .before .before .before .before .loop-test .taken); picks = c .before .before .before .before .pick .ensures }, (lit≤ tt, lit≤ tt))
 
-lane32-12-requires : tie.Need-lane32-12-requires Inv-loop μ-loop
-lane32-12-requires c κs = record { table = c .before .before .before .before .before .before .before .before .before .before .before .table .ensures; lane = c .before .before .before .before .lane32-8 .ensures .lane; picks = c .before .before .before .before .before .before .before .before .pick32 .ensures }
+slice-aggregate-places-2 : tie.Need-slice-aggregate-places-2 Inv-loop μ-loop
+slice-aggregate-places-2 c = sym (c .before .before .before .before .before .before .before .before .pick .ensures .long)
+
+places-requires-2 : tie.Need-places-requires-2 Inv-loop μ-loop
+places-requires-2 c κs = (record { table = c .before .before .before .before .before .before .before .before .before .before .before .before .before .table .ensures; lane = c .before .before .before .before .places .ensures .lane; picks = c .before .before .before .before .before .before .before .before .before .pick .ensures }, (lit≤ tt, lit≤ tt))
+
+slice-aggregate-places-3 : tie.Need-slice-aggregate-places-3 Inv-loop μ-loop
+slice-aggregate-places-3 c = sym (c .before .before .before .before .before .before .before .before .before .before .before .before .before .pick .ensures .long)
+
+places-requires-3 : tie.Need-places-requires-3 Inv-loop μ-loop
+places-requires-3 c κs = (record { table = c .before .before .before .before .before .before .before .before .before .before .before .before .before .before .before .before .before .before .table .ensures; lane = c .before .before .before .before .places2 .ensures .lane; picks = c .before .before .before .before .before .before .before .before .before .before .before .before .before .before .pick .ensures }, (lit≤ tt, lit≤ tt))
+
+slice-aggregate-places-4 : tie.Need-slice-aggregate-places-4 Inv-loop μ-loop
+slice-aggregate-places-4 c = sym (c .before .before .before .before .before .before .before .before .before .before .before .before .before .before .before .before .before .before .pick .ensures .long)
+
+places-requires-4 : tie.Need-places-requires-4 Inv-loop μ-loop
+places-requires-4 c κs = (record { table = c .before .before .before .before .before .before .before .before .before .before .before .before .before .before .before .before .before .before .before .before .before .before .before .table .ensures; lane = c .before .before .before .before .places3 .ensures .lane; picks = c .before .before .before .before .before .before .before .before .before .before .before .before .before .before .before .before .before .before .before .pick .ensures }, (lit≤ tt, lit≤ tt))
 
 add-j : tie.Need-add-j Inv-loop μ-loop
 add-j c = omega arith
@@ -42,7 +58,7 @@ loop-less : tie.Need-loop-less Inv-loop μ-loop
 loop-less c = omega arith
 
 loop-again : tie.Need-loop-again Inv-loop μ-loop
-loop-again c = passed-more (c .before .before .before .before .before .before .before .before .before .before .before .before .loop .inv) (c .before .before .before .before .before .before .before .before .before .before .before .loop-test .taken) (kept-then (c .before .before .before .before .before .before .lane32-8 .ensures .kept) (c .before .lane32-12 .ensures .kept)) (c .before .lane32-12 .ensures .lane .part)
+loop-again c = passed-more (c .before .before .before .before .before .before .before .before .before .before .before .before .before .before .before .before .before .before .before .before .before .before .before .before .loop .inv) (c .before .before .before .before .before .before .before .before .before .before .before .before .before .before .before .before .before .before .before .before .before .before .before .loop-test .taken) (kept-then (c .before .before .before .before .before .before .before .before .before .before .before .before .before .before .before .before .places .ensures .kept) (kept-then (c .before .before .before .before .before .before .before .before .before .before .before .places2 .ensures .kept) (kept-then (c .before .before .before .before .before .before .places3 .ensures .kept) (c .before .places4 .ensures .kept)))) (c .before .places4 .ensures .lane .part)
 
 same-length : tie.Need-same-length Inv-loop μ-loop
 same-length c = c .before .loop .inv .long
@@ -58,11 +74,16 @@ rows32-8-spec =
     μ-loop
     table-requires
     loop-holds
-    pick32-requires
-    slice-aggregate-lane32-8
-    lane32-8-requires
-    slice-aggregate-lane32-12
-    lane32-12-requires
+    slice-aggregate-pick
+    pick-requires
+    slice-aggregate-places
+    places-requires
+    slice-aggregate-places-2
+    places-requires-2
+    slice-aggregate-places-3
+    places-requires-3
+    slice-aggregate-places-4
+    places-requires-4
     add-j
     loop-less
     loop-again

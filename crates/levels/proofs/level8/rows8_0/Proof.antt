@@ -1,9 +1,9 @@
 -- `levels::level8::rows8_0` meets its contract: lane after lane. Written by tools/levels.py.
 -- Assumes nothing.
-use mathlib.Core.Path.{sym}
+use mathlib.Core.Path.{refl, sym}
 use Prim.Native.Nat.{_-_}
 use native.Mathlib.Omega.{arith}
-use Rattle.levels.proofs.AsLine.{kept-then}
+use lib.Dec.{lit<, lit≤}
 use Rattle.levels.proofs.Passes.{Places, Passed, passed-none, passed-more, next-lane, passed-all}
 use Rattle.levels.proofs.level8.rows8_0.Statement.{statement}
 use Rattle.levels.proofs.level8.rows8_0.Tie as tie
@@ -20,20 +20,17 @@ table-requires c κs = tt
 loop-holds : tie.Need-loop-holds Inv-loop μ-loop
 loop-holds c = passed-none (c .before .pre .part)
 
-pick8-requires : tie.Need-pick8-requires Inv-loop μ-loop
-pick8-requires c κs = c .loop-test .taken
+slice-aggregate-pick : tie.Need-slice-aggregate-pick Inv-loop μ-loop
+slice-aggregate-pick c = refl
 
-slice-aggregate-lane8-0 : tie.Need-slice-aggregate-lane8-0 Inv-loop μ-loop
-slice-aggregate-lane8-0 c = sym (c .before .before .pick8 .ensures .long)
+pick-requires : tie.Need-pick-requires Inv-loop μ-loop
+pick-requires c κs = (refl, record { some = lit< tt; rows = lit≤ tt; column = lit< tt; among = c .before .loop-test .taken })
 
-lane8-0-requires : tie.Need-lane8-0-requires Inv-loop μ-loop
-lane8-0-requires c κs = record { table = c .before .before .before .before .before .before .table .ensures; lane = next-lane (c .before .before .before .before .before .before .before .pre .level) (c .before .before .before .before .before .loop .inv) (c .before .before .before .before .loop-test .taken); picks = c .before .before .before .pick8 .ensures }
+slice-aggregate-places : tie.Need-slice-aggregate-places Inv-loop μ-loop
+slice-aggregate-places c = sym (c .before .before .before .pick .ensures .long)
 
-slice-aggregate-lane8-4 : tie.Need-slice-aggregate-lane8-4 Inv-loop μ-loop
-slice-aggregate-lane8-4 c = sym (c .before .before .before .before .before .before .before .pick8 .ensures .long)
-
-lane8-4-requires : tie.Need-lane8-4-requires Inv-loop μ-loop
-lane8-4-requires c κs = record { table = c .before .before .before .before .before .before .before .before .before .before .before .table .ensures; lane = c .before .before .before .before .lane8-0 .ensures .lane; picks = c .before .before .before .before .before .before .before .before .pick8 .ensures }
+places-requires : tie.Need-places-requires Inv-loop μ-loop
+places-requires c κs = (record { table = c .before .before .before .before .before .before .before .before .table .ensures; lane = next-lane (c .before .before .before .before .before .before .before .before .before .pre .level) (c .before .before .before .before .before .before .before .loop .inv) (c .before .before .before .before .before .before .loop-test .taken); picks = c .before .before .before .before .pick .ensures }, (lit≤ tt, lit≤ tt))
 
 add-j : tie.Need-add-j Inv-loop μ-loop
 add-j c = omega arith
@@ -42,7 +39,7 @@ loop-less : tie.Need-loop-less Inv-loop μ-loop
 loop-less c = omega arith
 
 loop-again : tie.Need-loop-again Inv-loop μ-loop
-loop-again c = passed-more (c .before .before .before .before .before .before .before .before .before .before .before .before .loop .inv) (c .before .before .before .before .before .before .before .before .before .before .before .loop-test .taken) (kept-then (c .before .before .before .before .before .before .lane8-0 .ensures .kept) (c .before .lane8-4 .ensures .kept)) (c .before .lane8-4 .ensures .lane .part)
+loop-again c = passed-more (c .before .before .before .before .before .before .before .before .before .loop .inv) (c .before .before .before .before .before .before .before .before .loop-test .taken) (c .before .places .ensures .kept) (c .before .places .ensures .lane .part)
 
 same-length : tie.Need-same-length Inv-loop μ-loop
 same-length c = c .before .loop .inv .long
@@ -58,11 +55,10 @@ rows8-0-spec =
     μ-loop
     table-requires
     loop-holds
-    pick8-requires
-    slice-aggregate-lane8-0
-    lane8-0-requires
-    slice-aggregate-lane8-4
-    lane8-4-requires
+    slice-aggregate-pick
+    pick-requires
+    slice-aggregate-places
+    places-requires
     add-j
     loop-less
     loop-again
