@@ -8,7 +8,7 @@ ghost use lib.ListN.{length};
 ghost use lib.IntN.{natAbs};
 ghost use Rattle.table.specs.Mirror.{Mirrored};
 ghost use Rattle.halving.specs.Line.{rows};
-ghost use Rattle.straight.specs.Sums.{wide, Reach, Product, Odd, Line, Raised};
+ghost use Rattle.straight.specs.Sums.{wide, most8, Reach, Product, Odd, Line, Raised};
 
 // Input k of line j times the table's number in row k, column n.
 fn term(t: &[i8], w: usize, x: &[i32], l: usize, k: usize, n: usize, j: usize) -> i64
@@ -51,7 +51,7 @@ pub(crate) fn line4(t: &[i8], w: usize, x: &[i32], l: usize, j: usize) -> [i64; 
 // Of size 8 the rounding number is added too, to the even half before the halves part: four times instead of eight.
 pub(crate) fn line8(t: &[i8], w: usize, x: &[i32], l: usize, j: usize, add: i64) -> [i64; 8]
     requires { ⌜ (Reach (now t) w (now x) l j 8 × (Mirrored 8 (rows (now t) w) × Mirrored 4 (rows (now t) (w + w)))) × (natAbs add ≤ 2147483648) ⌝ }
-    ensures { λ r. ⌜ Raised (8 * wide + 2147483648) (rows (now (t .entry)) w) 8 l (now (x .entry)) j add r ⌝ }
+    ensures { λ r. ⌜ Raised most8 (rows (now (t .entry)) w) 8 l (now (x .entry)) j add r ⌝ }
 {
     let e = line4(t, w + w, x, l + l, j);
     let a = odd4(t, w, x, l, 0, j);
