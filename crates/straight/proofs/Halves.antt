@@ -1,4 +1,4 @@
--- A line of size 2m from its halves, once over m: what the even inputs give with the even rows, and the odd inputs' share (the crate itx's halving
+-- A line of size 2m from its halves, once over m: what the even inputs give with the even rows, and the odd inputs' share (the halving
 -- theorem, with the strides of line and table doubled in place of a stride of its own). Then the shares and the size 2, written out.
 -- Assumes nothing.
 use mathlib.Core.Path.{_≡_, sym, ap, ap₂, _∙_, subst}

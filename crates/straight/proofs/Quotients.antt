@@ -20,13 +20,14 @@ use Rattle.integers.proofs.Every.{below, below-at}
 use Rattle.integers.proofs.Written.{grid-at}
 use Rattle.evc.specs.Table.{tm}
 use Rattle.evc.specs.Stages.{product, rounding, stageTwoAt}
+use Rattle.straight.specs.Sums.{most8}
 use Rattle.straight.specs.Groups.{groupOf, groupsOf, quotientAt}
 
 -- ---- the first step
-small : (a s : ℕ) → 11 ≤ s → a ≤ 2201170739200 → a < 2 ^ (31 + s)
+small : (a s : ℕ) → 11 ≤ s → a ≤ most8 → a < 2 ^ (31 + s)
 small a s h b = lt-of-lt-of-le (omega arith) (pow-mono {i = 42} {j = 31 + s} (omega arith))
 
-pub quotient-fits : (v : ℤ) (s : ℕ) → 11 ≤ s → natAbs v ≤ 2201170739200 → SFits w32 (floorPow v s)
+pub quotient-fits : (v : ℤ) (s : ℕ) → 11 ≤ s → natAbs v ≤ most8 → SFits w32 (floorPow v s)
 quotient-fits (pos a) s h b = record { sfits = shr-lt 31 s (small a s h b) }
 quotient-fits (negsuc a) s h b = record { sfits = shr-lt 31 s (small a s h (omega arith)) }
 

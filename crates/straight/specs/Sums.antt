@@ -15,6 +15,10 @@ narrow = 4194304
 abbrev pub wide : ℕ
 wide = 274877906944
 
+-- eight of the latter and a rounding number: no sum of stage two, size 8, is larger
+abbrev pub most8 : ℕ
+most8 = 2201170739200
+
 -- t has a table of N rows and columns, and x a line j of N inputs
 pub record Reach (t : List ℤ) (w : ℕ) (x : List ℤ) (l j N : ℕ) : Type 0 where
   pub table : (k n : ℕ) → k < N → n < N → k * w + n < length t

@@ -23,6 +23,7 @@ fn rows(src: &[i32], z: &mut [i32], l: usize, j0: usize, m: usize, add: i64, shi
     }
 }
 
+// Those lines, kept and then clipped.
 fn group(src: &[i32], dst: &mut [i16], l: usize, j0: usize, m: usize, add: i64, shift: u8)
     requires { ⌜ (Amount add shift × (m ≤ 8)) × ((j0 + m ≤ l) × Rooms (now src) (now dst) 8 l) ⌝ }
     ensures { λ _. ⌜ Next (now (dst .entry)) (now (dst .exit)) (j0 * 8) (8 * m) (λ i. stageTwoAt (tm 8) 8 l shift (now (src .entry)) (j0 * 8 + i)) ⌝ }
@@ -32,6 +33,7 @@ fn group(src: &[i32], dst: &mut [i16], l: usize, j0: usize, m: usize, add: i64, 
     store_clipped(&z, dst, 8 * m, j0 * 8);
 }
 
+// How many lines go together.
 fn together(l: usize) -> usize
     ensures { λ r. ⌜ r ≡ groupOf l ⌝ }
 {

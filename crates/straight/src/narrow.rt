@@ -17,14 +17,7 @@ fn term(t: &[i8], w: usize, x: &[i16], l: usize, k: usize, n: usize, j: usize) -
     (t[k * w + n] as i32) * (x[k * l + j] as i32)
 }
 
-// The odd inputs' share of place n in a line of 4, and of 8.
-fn odd2(t: &[i8], w: usize, x: &[i16], l: usize, n: usize, j: usize) -> i32
-    requires { ⌜ Reach (now t) w (now x) l j 4 × (n < 4) ⌝ }
-    ensures { λ r. ⌜ Odd (2 * narrow) (rows (now (t .entry)) w) 2 l (now (x .entry)) j n r ⌝ }
-{
-    term(t, w, x, l, 1, n, j) + term(t, w, x, l, 3, n, j)
-}
-
+// The odd inputs' share of place n in a line of 8.
 fn odd4(t: &[i8], w: usize, x: &[i16], l: usize, n: usize, j: usize) -> i32
     requires { ⌜ Reach (now t) w (now x) l j 8 × (n < 8) ⌝ }
     ensures { λ r. ⌜ Odd (4 * narrow) (rows (now (t .entry)) w) 4 l (now (x .entry)) j n r ⌝ }
@@ -49,8 +42,8 @@ pub(crate) fn line4(t: &[i8], w: usize, x: &[i16], l: usize, j: usize) -> [i32; 
     ensures { λ r. ⌜ Line (4 * narrow) (rows (now (t .entry)) w) 4 l (now (x .entry)) j r ⌝ }
 {
     let e = line2(t, w + w, x, l + l, j);
-    let a = odd2(t, w, x, l, 0, j);
-    let b = odd2(t, w, x, l, 1, j);
+    let a = term(t, w, x, l, 1, 0, j) + term(t, w, x, l, 3, 0, j);
+    let b = term(t, w, x, l, 1, 1, j) + term(t, w, x, l, 3, 1, j);
     [e[0] + a, e[1] + b, e[1] - b, e[0] - a]
 }
 

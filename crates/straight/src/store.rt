@@ -7,6 +7,7 @@ ghost use lib.ListN.{length, getD};
 ghost use lib.IntN.{pos, natAbs};
 ghost use Rattle.integers.specs.Z.{floorPow, clip16, clip32};
 ghost use Rattle.halving.specs.Lines.{shifted, Amount, Bounded, Next};
+ghost use Rattle.straight.specs.Sums.{most8};
 
 // Stage one: clipped to 32 bits.
 pub(crate) fn store_i32(y: &[i32], dst: &mut [i32], n: usize, j: usize)
@@ -31,7 +32,7 @@ pub(crate) fn store_i16(y: &[i64], dst: &mut [i16], n: usize, j: usize, add: i64
 // Stage two, size 8. A sum with its rounding number, divided by 2^shift toward minus infinity, and clipped to 32 bits: after 11 bits are shifted
 // out there is nothing left to clip.
 fn quotient(v: i64, shift: u8) -> i32
-    requires { ⌜ (shift ≤ 31) × (natAbs v ≤ 2201170739200) ⌝ }
+    requires { ⌜ (shift ≤ 31) × (natAbs v ≤ most8) ⌝ }
     ensures { λ r. ⌜ r ≡ clip32 (floorPow v shift) ⌝ }
 {
     let q = v >> shift;
@@ -43,7 +44,7 @@ fn quotient(v: i64, shift: u8) -> i32
 
 // The first step, for line j of a group.
 pub(crate) fn store_quotients(y: &[i64], z: &mut [i32], n: usize, j: usize, shift: u8)
-    requires { ⌜ ((shift ≤ 31) × ((k : ℕ) → k < n → natAbs (getD (now y) k (pos 0)) ≤ 2201170739200)) × ((n ≤ length (now y)) × (j * n + n ≤ length (now z))) ⌝ }
+    requires { ⌜ ((shift ≤ 31) × ((k : ℕ) → k < n → natAbs (getD (now y) k (pos 0)) ≤ most8)) × ((n ≤ length (now y)) × (j * n + n ≤ length (now z))) ⌝ }
     ensures { λ _. ⌜ Next (now (z .entry)) (now (z .exit)) (j * n) n (λ k. clip32 (floorPow (getD (now (y .entry)) k (pos 0)) shift)) ⌝ }
 {
     for k in 0..n {

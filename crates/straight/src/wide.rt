@@ -8,7 +8,7 @@ ghost use lib.ListN.{length};
 ghost use lib.IntN.{natAbs};
 ghost use Rattle.table.specs.Mirror.{Mirrored};
 ghost use Rattle.halving.specs.Line.{rows};
-ghost use Rattle.straight.specs.Sums.{wide, Reach, Product, Odd, Line, Raised};
+ghost use Rattle.straight.specs.Sums.{wide, most8, Reach, Product, Odd, Line, Raised};
 
 // Input k of line j times the table's number in row k, column n.
 fn term(t: &[i8], w: usize, x: &[i32], l: usize, k: usize, n: usize, j: usize) -> i64
@@ -18,14 +18,7 @@ fn term(t: &[i8], w: usize, x: &[i32], l: usize, k: usize, n: usize, j: usize) -
     (t[k * w + n] as i64) * (x[k * l + j] as i64)
 }
 
-// The odd inputs' share of place n in a line of 4, and of 8.
-fn odd2(t: &[i8], w: usize, x: &[i32], l: usize, n: usize, j: usize) -> i64
-    requires { ⌜ Reach (now t) w (now x) l j 4 × (n < 4) ⌝ }
-    ensures { λ r. ⌜ Odd (2 * wide) (rows (now (t .entry)) w) 2 l (now (x .entry)) j n r ⌝ }
-{
-    term(t, w, x, l, 1, n, j) + term(t, w, x, l, 3, n, j)
-}
-
+// The odd inputs' share of place n in a line of 8.
 fn odd4(t: &[i8], w: usize, x: &[i32], l: usize, n: usize, j: usize) -> i64
     requires { ⌜ Reach (now t) w (now x) l j 8 × (n < 8) ⌝ }
     ensures { λ r. ⌜ Odd (4 * wide) (rows (now (t .entry)) w) 4 l (now (x .entry)) j n r ⌝ }
@@ -50,15 +43,15 @@ pub(crate) fn line4(t: &[i8], w: usize, x: &[i32], l: usize, j: usize) -> [i64; 
     ensures { λ r. ⌜ Line (4 * wide) (rows (now (t .entry)) w) 4 l (now (x .entry)) j r ⌝ }
 {
     let e = line2(t, w + w, x, l + l, j);
-    let a = odd2(t, w, x, l, 0, j);
-    let b = odd2(t, w, x, l, 1, j);
+    let a = term(t, w, x, l, 1, 0, j) + term(t, w, x, l, 3, 0, j);
+    let b = term(t, w, x, l, 1, 1, j) + term(t, w, x, l, 3, 1, j);
     [e[0] + a, e[1] + b, e[1] - b, e[0] - a]
 }
 
 // Of size 8 the rounding number is added too, to the even half before the halves part: four times instead of eight.
 pub(crate) fn line8(t: &[i8], w: usize, x: &[i32], l: usize, j: usize, add: i64) -> [i64; 8]
     requires { ⌜ (Reach (now t) w (now x) l j 8 × (Mirrored 8 (rows (now t) w) × Mirrored 4 (rows (now t) (w + w)))) × (natAbs add ≤ 2147483648) ⌝ }
-    ensures { λ r. ⌜ Raised (8 * wide + 2147483648) (rows (now (t .entry)) w) 8 l (now (x .entry)) j add r ⌝ }
+    ensures { λ r. ⌜ Raised most8 (rows (now (t .entry)) w) 8 l (now (x .entry)) j add r ⌝ }
 {
     let e = line4(t, w + w, x, l + l, j);
     let a = odd4(t, w, x, l, 0, j);

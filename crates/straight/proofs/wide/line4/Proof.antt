@@ -7,10 +7,10 @@ use lib.Dec.{lit<}
 use lib.ListN.{length, getD}
 use lib.IntN.{ℤ, pos, _+ℤ_, _-ℤ_}
 use mir.Syntax.{w64}
-use Rattle.integers.proofs.Expr.{Ex, var, add, sub, loc, Known, small, env, raw, machines, reads, fit}
+use Rattle.integers.proofs.Expr.{Ex, var, add, sub, loc, Known, small, env, val, raw, machines, exacts, within, reads, fit}
 use Rattle.halving.specs.Line.{rows}
-use Rattle.straight.specs.Sums.{wide, Odd, Line}
-use Rattle.straight.proofs.Halves.{half-reach, joined}
+use Rattle.straight.specs.Sums.{wide, Product, Odd, Line}
+use Rattle.straight.proofs.Halves.{half-reach, odd-two, joined}
 use Rattle.straight.proofs.wide.line4.Statement.{statement}
 use Rattle.straight.proofs.wide.line4.Tie as tie
 
@@ -21,53 +21,78 @@ last-row s = s .pre .0 .table 3 0 (omega arith) (omega arith)
 last-input : (s : tie.Start) → 3 * s .args .l + s .args .j < length (s .args .x .now)
 last-input s = s .pre .0 .input 3 (omega arith)
 
-module _ (c : tie.After-odd22) where
+-- where column n of row k and input k stand
+inside : (s : tie.Start) (k n : ℕ) → k < 4 → n < 4 → (k * s .args .w + n < length (s .args .t .now)) × (k * s .args .l + s .args .j < length (s .args .x .now))
+inside s k n h r = (s .pre .0 .table k n h r, s .pre .0 .input k h)
+
+-- a product in an expression
+abbrev one : {a b : ℤ} (r : ℤ) → Product wide a b r → Known
+one r p = small w64 r wide (record { bound = p .small }) tt
+
+abbrev first : tie.After-term2 → ℕ → Known
+first c = env (one (c .before .term .result) (c .before .term .ensures) ∷ one (c .term2 .result) (c .term2 .ensures) ∷ [])
+
+module _ (c : tie.After-term4) where
   abbrev s : tie.Start
-  s = c .before .before .before
+  s = c .before .before .before .before .before
 
   -- the halves
   abbrev e : List ℤ
-  e = c .before .before .line2 .result
+  e = c .before .before .before .before .line2 .result
 
   even : Line (2 * wide) (rows (s .args .t .now) (s .args .w + s .args .w)) 2 (s .args .l + s .args .l) (s .args .x .now) (s .args .j) e
-  even = c .before .before .line2 .ensures
+  even = c .before .before .before .before .line2 .ensures
 
-  abbrev o : ℕ → ℤ
-  o n = getD (c .before .odd2 .result ∷ c .odd22 .result ∷ []) n (pos 0)
-
-  odds : (n : ℕ) → n < 2 → Odd (2 * wide) (rows (s .args .t .now) (s .args .w)) 2 (s .args .l) (s .args .x .now) (s .args .j) n (o n)
-  odds zero h = c .before .odd2 .ensures
-  odds (suc zero) h = c .odd22 .ensures
-  odds (suc (suc n)) h = let z : ⊥ = omega arith in absurd z
-
-  -- in expressions: first the places of the one, then of the other
+  -- in expressions: the places of the one, then the products of the other
   abbrev known : ℕ → Known
   known =
       env (
       small w64 (getD e 0 (pos 0)) (2 * wide) (record { bound = even .small 0 (omega arith) }) tt
       ∷ small w64 (getD e 1 (pos 0)) (2 * wide) (record { bound = even .small 1 (omega arith) }) tt
-      ∷ small w64 (o 0) (2 * wide) (record { bound = odds 0 (omega arith) .small }) tt
-      ∷ small w64 (o 1) (2 * wide) (record { bound = odds 1 (omega arith) .small }) tt
+      ∷ one (c .before .before .before .term .result) (c .before .before .before .term .ensures)
+      ∷ one (c .before .before .term2 .result) (c .before .before .term2 .ensures)
+      ∷ one (c .before .term3 .result) (c .before .term3 .ensures)
+      ∷ one (c .term4 .result) (c .term4 .ensures)
       ∷ []
       )
 
-  abbrev low : ℕ → Ex
-  low n = add (var n) (var (2 + n))
+  abbrev a : Ex
+  a = add (var 2) (var 3)
 
-  abbrev high : ℕ → Ex
-  high n = sub (var n) (var (2 + n))
+  abbrev b : Ex
+  b = add (var 4) (var 5)
+
+  abbrev o : ℕ → ℤ
+  o n = getD (val (exacts known) a ∷ val (exacts known) b ∷ []) n (pos 0)
+
+  odds : (n : ℕ) → n < 2 → Odd (2 * wide) (rows (s .args .t .now) (s .args .w)) 2 (s .args .l) (s .args .x .now) (s .args .j) n (o n)
+  odds zero h = record {
+    is = odd-two (rows (s .args .t .now) (s .args .w)) 0 (λ k. rows (s .args .x .now) (s .args .l) k (s .args .j)) (c .before .before .before .term .ensures) (c .before .before .term2 .ensures);
+    small = within known a .bound;
+  }
+  odds (suc zero) h = record {
+    is = odd-two (rows (s .args .t .now) (s .args .w)) 1 (λ k. rows (s .args .x .now) (s .args .l) k (s .args .j)) (c .before .term3 .ensures) (c .term4 .ensures);
+    small = within known b .bound;
+  }
+  odds (suc (suc n)) h = let z : ⊥ = omega arith in absurd z
+
+  abbrev low : ℕ → Ex → Ex
+  low n f = add (var n) (loc w64 f)
+
+  abbrev high : ℕ → Ex → Ex
+  high n f = sub (var n) (loc w64 f)
 
   abbrev out : List ℤ
-  out = map (raw (machines known)) (loc w64 (low 0) ∷ loc w64 (low 1) ∷ loc w64 (high 1) ∷ loc w64 (high 0) ∷ [])
+  out = map (raw (machines known)) (loc w64 (low 0 a) ∷ loc w64 (low 1 b) ∷ loc w64 (high 1 b) ∷ loc w64 (high 0 a) ∷ [])
 
   low-is : (n : ℕ) → n < 2 → getD out n (pos 0) ≡ getD e n (pos 0) +ℤ o n
-  low-is zero h = reads known (loc w64 (low 0)) tt
-  low-is (suc zero) h = reads known (loc w64 (low 1)) tt
+  low-is zero h = reads known (loc w64 (low 0 a)) tt
+  low-is (suc zero) h = reads known (loc w64 (low 1 b)) tt
   low-is (suc (suc n)) h = let z : ⊥ = omega arith in absurd z
 
   high-is : (n : ℕ) → n < 2 → getD out (2 + 2 - suc n) (pos 0) ≡ getD e n (pos 0) -ℤ o n
-  high-is zero h = reads known (loc w64 (high 0)) tt
-  high-is (suc zero) h = reads known (loc w64 (high 1)) tt
+  high-is zero h = reads known (loc w64 (high 0 a)) tt
+  high-is (suc zero) h = reads known (loc w64 (high 1 b)) tt
   high-is (suc (suc n)) h = let z : ⊥ = omega arith in absurd z
 
 add-line2 : tie.Need-add-line2
@@ -79,41 +104,53 @@ add-line2-2 c = omega (arith, last-input c)
 line2-requires : tie.Need-line2-requires
 line2-requires c κs = half-reach 2 (c .pre .0)
 
-odd2-requires : tie.Need-odd2-requires
-odd2-requires c κs = (c .before .pre .0, omega arith)
+term-requires : tie.Need-term-requires
+term-requires c κs = inside (c .before) 1 0 (omega arith) (omega arith)
 
-odd2-requires-2 : tie.Need-odd2-requires-2
-odd2-requires-2 c κs = (c .before .before .pre .0, omega arith)
+term-requires-2 : tie.Need-term-requires-2
+term-requires-2 c κs = inside (c .before .before) 3 0 (omega arith) (omega arith)
 
-array-copy-out-t14 : tie.Need-array-copy-out-t14
-array-copy-out-t14 c = lit< tt
+add-a : tie.Need-add-a
+add-a c = fit (first c) w64 (add (var 0) (var 1)) tt
 
-add-t15 : tie.Need-add-t15
-add-t15 c = fit (known (c .before)) w64 (low (c .before) 0) tt
+term-requires-3 : tie.Need-term-requires-3
+term-requires-3 c κs = inside (c .before .before .before) 1 1 (omega arith) (omega arith)
+
+term-requires-4 : tie.Need-term-requires-4
+term-requires-4 c κs = inside (c .before .before .before .before) 3 1 (omega arith) (omega arith)
+
+add-b : tie.Need-add-b
+add-b c = fit (known c) w64 (b c) tt
+
+array-copy-out-t12 : tie.Need-array-copy-out-t12
+array-copy-out-t12 c = lit< tt
+
+add-t13 : tie.Need-add-t13
+add-t13 c = let d = c .before in fit (known d) w64 (low d 0 (a d)) tt
 
 array-copy-out-t18 : tie.Need-array-copy-out-t18
 array-copy-out-t18 c = lit< tt
 
 add-t19 : tie.Need-add-t19
-add-t19 c = fit (known (c .before .before)) w64 (low (c .before .before) 1) tt
+add-t19 c = let d = c .before .before in fit (known d) w64 (low d 1 (b d)) tt
 
 array-copy-out-t22 : tie.Need-array-copy-out-t22
 array-copy-out-t22 c = lit< tt
 
 sub-t23 : tie.Need-sub-t23
-sub-t23 c = fit (known (c .before .before .before)) w64 (high (c .before .before .before) 1) tt
+sub-t23 c = let d = c .before .before .before in fit (known d) w64 (high d 1 (b d)) tt
 
 array-copy-out-t26 : tie.Need-array-copy-out-t26
 array-copy-out-t26 c = lit< tt
 
 sub-t27 : tie.Need-sub-t27
-sub-t27 c = fit (known (c .before .before .before .before)) w64 (high (c .before .before .before .before) 0) tt
+sub-t27 c = let d = c .before .before .before .before in fit (known d) w64 (high d 0 (a d)) tt
 
 returns : tie.Need-returns
 returns c =
     let d = c .before .before .before .before in
-    let a = s d .args in
-    joined (2 * wide) (2 * wide) (a .t .now) (a .w) (a .x .now) (a .l) (a .j) 2 (e d) (out d) (o d) (s d .pre .1) (omega arith) (even d) (odds d) refl (low-is d) (high-is d)
+    let g = s d .args in
+    joined (2 * wide) (2 * wide) (g .t .now) (g .w) (g .x .now) (g .l) (g .j) 2 (e d) (out d) (o d) (s d .pre .1) (omega arith) (even d) (odds d) refl (low-is d) (high-is d)
 
 pub line4-spec : {M : Type 1} → statement M
 line4-spec =
@@ -122,10 +159,14 @@ line4-spec =
     add-line2
     add-line2-2
     line2-requires
-    odd2-requires
-    odd2-requires-2
-    array-copy-out-t14
-    add-t15
+    term-requires
+    term-requires-2
+    add-a
+    term-requires-3
+    term-requires-4
+    add-b
+    array-copy-out-t12
+    add-t13
     array-copy-out-t18
     add-t19
     array-copy-out-t22
