@@ -2,7 +2,7 @@
 use mathlib.Core.Path.{_≡_, refl, sym, ap, _∙_, subst}
 use mathlib.Core.Logic.{_≢_}
 use mathlib.Core.List.{List}
-use Prim.Native.Nat.{ℕ, zero, suc, _+_, _*_, _-_, _<_}
+use Prim.Native.Nat.{ℕ, zero, suc, _+_, _*_, _-_, _≤_, _<_}
 use native.Mathlib.Omega.{arith}
 use native.Mathlib.Nat.{not-suc-le-zero, zero-mul, one-mul, add-zero, mul-add, add-mul, mul-le-mul-left}
 use native.Mathlib.Decide.{ℕ-discrete, decLt}
@@ -10,7 +10,7 @@ use lib.ListN.{length, getD, set, length-set}
 use lib.Seq.{getD-set-same, getD-set-other}
 use lib.IntN.{ℤ, pos, _+ℤ_, _-ℤ_, _*ℤ_, +ℤ-idl}
 use Rattle.integers.specs.Sum.{sum}
-use Rattle.halving.specs.Line.{line, rows, dot, odd, Level, Sums, Part}
+use Rattle.halving.specs.Line.{line, rows, dot, odd, Inputs, Table, Level, Sums, Part}
 use Rattle.halving.proofs.Halving.{split, mirrored}
 
 module _ {e x : List ℤ} {T : ℕ → ℕ → ℤ} {q m : ℕ} where
@@ -31,6 +31,10 @@ module _ {e x : List ℤ} {T : ℕ → ℕ → ℤ} {q m : ℕ} where
       by n h (no f) =
           let r : m + m - suc (m + m - suc n) ≡ n = omega arith in
           subst (λ (i : ℕ). getD e i (pos 0) ≡ dot T q (m + m) i (line x)) r (p .high (m + m - suc n) (omega arith))
+
+-- a size 2m that divides the line's is a level of it
+pub level-at : {t x : List ℤ} {w N : ℕ} → Table t w N → Inputs x N → (m q : ℕ) → (m + m) * q ≡ N → 2 ≤ m → 0 < q → Level t w x m q
+level-at g v m q e h k = record { table = rw e g; inputs = rw e v; size = h; stride = k }
 
 -- a place of the level is a place of the buffer
 pub place : {t x : List ℤ} {w m q : ℕ} → Level t w x m q → (n : ℕ) → n < m + m → n < (m + m) * q

@@ -1,4 +1,4 @@
--- The sums of one line, cited by the contracts of src/line.rt, and the laws of the halving. A table is a function T, row k then column n; of
+-- The sums of one line, cited by the contracts of the crates that make them, and the laws of the halving. A table is a function T, row k then column n; of
 -- a line x, x k is input k. Document 01, "The two stages"; document 02, request Ten. Assumes nothing.
 use mathlib.Core.Path.{_≡_}
 use mathlib.Core.List.{List}

@@ -1,4 +1,4 @@
--- The lines of a stage's buffers, cited by the contracts of src/gather.rt, store.rt, itxb0.rt and itxb1.rt. Document 01, "The two stages".
+-- The lines of a stage's buffers, cited by the contracts of the crates that do a stage. Document 01, "The two stages".
 -- Assumes nothing.
 use mathlib.Core.Path.{_≡_}
 use mathlib.Core.List.{List}

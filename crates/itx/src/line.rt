@@ -39,7 +39,16 @@ fn step(t: &[i8], w: usize, x: &[i64], e: &mut [i64], m: usize, q: usize, n: usi
 }
 
 // The halving step, from the product of size m, with every second row and input, to that of size 2m: its places from a to b.
-fn steps(t: &[i8], w: usize, x: &[i64], e: &mut [i64], m: usize, q: usize, a: usize, b: usize)
+pub(crate) fn steps(
+    t: &[i8],
+    w: usize,
+    x: &[i64],
+    e: &mut [i64],
+    m: usize,
+    q: usize,
+    a: usize,
+    b: usize,
+)
     requires { ⌜ (Level (now t) w (now x) m q × ((a ≤ b) × (b ≤ m))) × Part (now e) (rows (now t) w) q m a (now x) ⌝ }
     ensures { λ _. ⌜ Part (now (e .exit)) (rows (now (t .entry)) w) q m b (now (x .entry)) ⌝ }
 {
@@ -57,8 +66,8 @@ fn start(t: &[i8], w: usize, x: &[i64], e: &mut [i64], q: usize)
     e[1] = term(t, x, 1, 0) + term(t, x, q * w + 1, q);
 }
 
-// A line of each size. The numbers are literals, and of sizes 16 and 32 each loop is short enough for a compiler to write it out: it then knows
-// which numbers of the table it reads.
+// A line of each size. The numbers are literals, and each loop is short enough for a compiler to write it out: it then knows which numbers of the
+// table it reads.
 pub(crate) fn line16(t: &[i8], w: usize, x: &[i64], e: &mut [i64])
     requires { ⌜ (Table (now t) w 16 × Inputs (now x) 16) × (length (now e) ≡ 16) ⌝ }
     ensures { λ _. ⌜ Sums (now (e .exit)) (rows (now (t .entry)) w) 1 16 (now (x .entry)) ⌝ }
@@ -85,14 +94,18 @@ pub(crate) fn line32(t: &[i8], w: usize, x: &[i64], e: &mut [i64])
     steps(t, w, x, e, 16, 1, 12, 16);
 }
 
-pub(crate) fn line64(t: &[i8], w: usize, x: &[i64], e: &mut [i64])
+// Size 64, but for its last level: the product of size 32, with every second row and input.
+pub(crate) fn half64(t: &[i8], w: usize, x: &[i64], e: &mut [i64])
     requires { ⌜ (Table (now t) w 64 × Inputs (now x) 64) × (length (now e) ≡ 64) ⌝ }
-    ensures { λ _. ⌜ Sums (now (e .exit)) (rows (now (t .entry)) w) 1 64 (now (x .entry)) ⌝ }
+    ensures { λ _. ⌜ Sums (now (e .exit)) (rows (now (t .entry)) w) 2 32 (now (x .entry)) ⌝ }
 {
     start(t, w, x, e, 32);
     steps(t, w, x, e, 2, 16, 0, 2);
     steps(t, w, x, e, 4, 8, 0, 4);
-    steps(t, w, x, e, 8, 4, 0, 8);
-    steps(t, w, x, e, 16, 2, 0, 16);
-    steps(t, w, x, e, 32, 1, 0, 32);
+    steps(t, w, x, e, 8, 4, 0, 4);
+    steps(t, w, x, e, 8, 4, 4, 8);
+    steps(t, w, x, e, 16, 2, 0, 4);
+    steps(t, w, x, e, 16, 2, 4, 8);
+    steps(t, w, x, e, 16, 2, 8, 12);
+    steps(t, w, x, e, 16, 2, 12, 16);
 }

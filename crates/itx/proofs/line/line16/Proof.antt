@@ -1,31 +1,25 @@
 -- `itx::line::line16` meets its contract: level after level. Assumes nothing.
 use borrow.Author.Needs.{needs}
-use mathlib.Core.Path.{_≡_, refl, sym, _∙_}
-use Prim.Native.Nat.{ℕ, _+_, _*_, _<_, _≤_}
+use mathlib.Core.Path.{refl, sym, _∙_}
 use native.Mathlib.Omega.{arith}
-use Rattle.halving.specs.Line.{Level}
-use Rattle.halving.proofs.Step.{none, all}
+use Rattle.halving.proofs.Step.{none, all, level-at}
 use Rattle.itx.proofs.line.line16.Statement.{statement}
 use Rattle.itx.proofs.line.line16.Tie as tie
-
--- every size is a level of the line's
-level : (s : tie.Start) (m q : ℕ) → (m + m) * q ≡ 16 → 2 ≤ m → 0 < q → Level (s .args .t .now) (s .args .w) (s .args .x .now) m q
-level s m q e h k = record { table = rw e (s .pre .0 .0); inputs = rw e (s .pre .0 .1); size = h; stride = k }
 
 start-requires : tie.Need-start-requires
 start-requires c κs = search needs
 
 steps-requires : tie.Need-steps-requires
-steps-requires c κs = ((level (c .before .before .before .before) 2 4 refl (omega arith) (omega arith), (omega arith, omega arith)), none (c .before .before .start .ensures))
+steps-requires c κs = ((level-at (c .before .before .before .before .pre .0 .0) (c .before .before .before .before .pre .0 .1) 2 4 refl (omega arith) (omega arith), (omega arith, omega arith)), none (c .before .before .start .ensures))
 
 steps-requires-2 : tie.Need-steps-requires-2
-steps-requires-2 c κs = ((level (c .before .before .before .before .before .before .before) 4 2 refl (omega arith) (omega arith), (omega arith, omega arith)), none (all (c .before .before .steps .ensures)))
+steps-requires-2 c κs = ((level-at (c .before .before .before .before .before .before .before .pre .0 .0) (c .before .before .before .before .before .before .before .pre .0 .1) 4 2 refl (omega arith) (omega arith), (omega arith, omega arith)), none (all (c .before .before .steps .ensures)))
 
 steps-requires-3 : tie.Need-steps-requires-3
-steps-requires-3 c κs = ((level (c .before .before .before .before .before .before .before .before .before .before) 8 1 refl (omega arith) (omega arith), (omega arith, omega arith)), none (all (c .before .before .steps2 .ensures)))
+steps-requires-3 c κs = ((level-at (c .before .before .before .before .before .before .before .before .before .before .pre .0 .0) (c .before .before .before .before .before .before .before .before .before .before .pre .0 .1) 8 1 refl (omega arith) (omega arith), (omega arith, omega arith)), none (all (c .before .before .steps2 .ensures)))
 
 steps-requires-4 : tie.Need-steps-requires-4
-steps-requires-4 c κs = ((level (c .before .before .before .before .before .before .before .before .before .before .before .before .before) 8 1 refl (omega arith) (omega arith), (omega arith, omega arith)), c .before .before .steps3 .ensures)
+steps-requires-4 c κs = ((level-at (c .before .before .before .before .before .before .before .before .before .before .before .before .before .pre .0 .0) (c .before .before .before .before .before .before .before .before .before .before .before .before .before .pre .0 .1) 8 1 refl (omega arith) (omega arith), (omega arith, omega arith)), c .before .before .steps3 .ensures)
 
 same-length : tie.Need-same-length
 same-length c = c .before .steps4 .ensures .long ∙ sym (c .before .before .before .before .before .before .before .before .before .before .before .before .before .before .before .pre .1)
