@@ -1,4 +1,4 @@
--- Laws that the proofs of this crate share, and of its callers.
+-- Laws that the proofs of this crate and of its callers share.
 pub mod Laws
 pub mod Matches
 pub mod Areas
