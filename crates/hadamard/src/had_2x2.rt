@@ -1,17 +1,16 @@
 // `evc_had_2x2`, after the Rust's function of that name. Document 01, "Distortion".
 // Differs from the Rust in: the differences are handed in.
 ghost use mathlib.Core.Path.{_≡_};
+ghost use mathlib.Core.List.{[], _∷_};
+ghost use Prim.Native.Nat.{_+_, _*_};
 ghost use Rattle.evc.specs.Tiles.{tileNumber};
-ghost use Rattle.hadamard.specs.Passes.{entry};
+ghost use Rattle.hadamard.specs.Passes.{place, entry, RowWithin};
 
-// The number of a 2 by 2 tile, from its differences, row after row.
-pub fn evc_had_2x2(diff: [[i16; 2]; 2]) -> u32
-    ensures { λ r. ⌜ r ≡ tileNumber 2 (entry diff) ⌝ }
+// The same from the four differences as numbers, row after row.
+fn tile(x0: i32, x1: i32, x2: i32, x3: i32) -> u32
+    requires { ⌜ RowWithin 32768 (x0 ∷ x1 ∷ x2 ∷ x3 ∷ []) ⌝ }
+    ensures { λ r. ⌜ r ≡ tileNumber 2 (λ j i. place (x0 ∷ x1 ∷ x2 ∷ x3 ∷ []) (2 * j + i)) ⌝ }
 {
-    let x0 = diff[0][0] as i32;
-    let x1 = diff[0][1] as i32;
-    let x2 = diff[1][0] as i32;
-    let x3 = diff[1][1] as i32;
     let m0 = x0 + x2;
     let m1 = x1 + x3;
     let m2 = x0 - x2;
@@ -21,4 +20,13 @@ pub fn evc_had_2x2(diff: [[i16; 2]; 2]) -> u32
     let s2 = integers::abs_i32(m2 + m3);
     let s3 = integers::abs_i32(m2 - m3);
     s0 / 4 + s1 + s2 + s3
+}
+
+// The number of a 2 by 2 tile, from its differences, row after row.
+pub fn evc_had_2x2(diff: [[i16; 2]; 2]) -> u32
+    ensures { λ r. ⌜ r ≡ tileNumber 2 (entry diff) ⌝ }
+{
+    let p = diff[0];
+    let q = diff[1];
+    tile(p[0] as i32, p[1] as i32, q[0] as i32, q[1] as i32)
 }
