@@ -2,6 +2,7 @@
 // stages". Three crates side by side do the work, and each answers whether a call was its own; what none did is refused.
 mod stage_one;
 mod stage_two;
+mod told;
 
 pub use stage_one::itxb0;
 pub use stage_two::itxb1;

@@ -5,6 +5,7 @@ ghost use lib.ListN.{length};
 ghost use Rattle.evc.specs.Answers.{answerNumber};
 ghost use Rattle.evc.specs.Stages.{stageOneNumber, itxb0Exit};
 ghost use Rattle.halving.specs.Own.{ownOne};
+use super::told::told;
 use evc::Answer;
 
 // What `straight` does not do. It is called in two places: compilers inline what has one caller, and a small call would pay for the buffers of the
@@ -29,10 +30,10 @@ pub fn itxb0(src: &[i16], dst: &mut [i32], log2_size: usize, log2_line: usize) -
     ensures exit { λ _. ⌜ now (dst .exit) ≡ itxb0Exit «log2_size» «log2_line» (now (src .entry)) (now (dst .entry)) ⌝ }
 {
     if 3 < log2_size {
-        return large(&src[..], dst, log2_size, log2_line);
+        return told(large(&src[..], dst, log2_size, log2_line));
     }
     if straight::itxb0(src, dst, log2_size, log2_line) {
         return Answer::Done;
     }
-    large(&src[..], dst, log2_size, log2_line)
+    told(large(&src[..], dst, log2_size, log2_line))
 }

@@ -5,6 +5,7 @@ ghost use lib.ListN.{length};
 ghost use Rattle.evc.specs.Answers.{answerNumber};
 ghost use Rattle.evc.specs.Stages.{stageTwoNumber, itxb1Exit};
 ghost use Rattle.halving.specs.Own.{ownTwo};
+use super::told::told;
 use evc::Answer;
 
 // What `straight` does not do, called in two places as in stage one.
@@ -28,10 +29,10 @@ pub fn itxb1(src: &[i32], dst: &mut [i16], log2_size: usize, log2_line: usize, s
     ensures exit { λ _. ⌜ now (dst .exit) ≡ itxb1Exit «log2_size» «log2_line» shift (now (src .entry)) (now (dst .entry)) ⌝ }
 {
     if 3 < log2_size {
-        return large(&src[..], dst, log2_size, log2_line, shift);
+        return told(large(&src[..], dst, log2_size, log2_line, shift));
     }
     if straight::itxb1(src, dst, log2_size, log2_line, shift) {
         return Answer::Done;
     }
-    large(&src[..], dst, log2_size, log2_line, shift)
+    told(large(&src[..], dst, log2_size, log2_line, shift))
 }

@@ -1,6 +1,6 @@
 -- `stages::stage_two::itxb1` meets its contract: a small size by `straight`, or by what it does not do. Assumes nothing.
 use borrow.Author.Needs.{needs}
-use mathlib.Core.Path.{_≡_, sym, subst}
+use mathlib.Core.Path.{_≡_, sym, subst, _∙_}
 use mathlib.Core.Bool.{false}
 use mathlib.Core.List.{List}
 use Prim.Native.Nat.{ℕ}
@@ -26,6 +26,9 @@ left c = let s = c .before .before .before .before .before in let k = c .before 
 
 large-requires : tie.Need-large-requires
 large-requires c κs = let s = c .before .before in not-small (s .args .log2-size) (s .args .log2-line) _ (c .before .if1 .taken)
+
+told-requires : tie.Need-told-requires
+told-requires c κs = search needs
 
 same-length : tie.Need-same-length
 same-length c = search needs
@@ -53,25 +56,32 @@ large-requires-2 c κs =
     subst (λ (d : List ℤ). ownTwo 1 3 0 (s .args .log2-size) (s .args .log2-line) (s .args .shift) (s .args .src .now) d ≡ false) (sym (left e))
     (not-own-is 1 3 0 (s .args .log2-size) (s .args .log2-line) (number s) (exit s) (k .result) (s .args .dst .now) (k .ensures .0) (k .ensures .1) (e .if2 .left))
 
+told-requires-2 : tie.Need-told-requires-2
+told-requires-2 c κs = search needs
+
 same-length-3 : tie.Need-same-length-3
 same-length-3 c = search needs
 
 returns-3 : tie.Need-returns-3
 returns-3 c =
-    let e = c .before .before .before in
+    let k = c .before .before .large2 in
+    let e = c .before .before .before .before in
     let s = e .before .before .before .before .before in
-    subst (λ (d : List ℤ). (answerNumber (c .before .large2 .result) ≡ number s d) × (c .before .large2 .last .1 .0 ≡ exit s d)) (left e) (c .before .large2 .ensures)
+    subst (λ (d : List ℤ). (answerNumber (c .told2 .result) ≡ number s d) × (k .last .1 .0 ≡ exit s d)) (left e)
+    (c .told2 .ensures ∙ k .ensures .0, k .ensures .1)
 
 pub itxb1-spec : {M : Type 1} → statement M
 itxb1-spec =
     tie.close
     (tie.spec
     large-requires
+    told-requires
     same-length
     returns
     itxb1-requires
     same-length-2
     returns-2
     large-requires-2
+    told-requires-2
     same-length-3
     returns-3)
