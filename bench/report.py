@@ -23,7 +23,7 @@ COUNTED = 10  # the depth at which instructions are counted
 # what before.tsv is
 BEFORE = [
     "Before: every stage line by line in 64 bits, one halving step for every size. After: the shapes of docs/DECISIONS.md, \"Shapes for speed\", under the",
-    "same promises. Both archives were measured on one machine, one run after the other.",
+    "same promises. Before was measured in an earlier run, on another machine of this kind (before.tsv): its instructions are exact there too, its times compare only as ratios.",
 ]
 
 
@@ -54,11 +54,6 @@ def bars(kernel, place, w, h):
     if kernel in ("itxb0", "itxb1", "job") and min(w, h) >= 8:
         found.append(("ns", TIME))
     return found
-
-
-def rounded(x):
-    """As printed, so that a bar is judged by the figure that the reader sees."""
-    return round(x, 2)
 
 
 class Run:
@@ -107,8 +102,8 @@ class Run:
                 yield limit, *case, None if None in got else max(got), what
 
 
-def figure(x):
-    return "-" if x is None else f"{x:.2f}"
+def figure(x, places=2):
+    return "-" if x is None else f"{x:.{places}f}"
 
 
 def whole(x):
@@ -131,7 +126,8 @@ def case_name(kernel, place, w, h):
 
 
 def is_missed(b):
-    return b[5] is not None and rounded(b[5]) > b[0]
+    """By the ratio itself, not by the figure as printed."""
+    return b[5] is not None and b[5] > b[0]
 
 
 WORDS = {"ns": "time", "steps": "instructions"}
@@ -152,7 +148,7 @@ def bars_part(run):
         worst = max(measured, key=lambda b: b[5]) if measured else None
         said = [f"**MISSED** by {len(missed)} of {len(members)}"] if missed else []
         said += [f"{len(members) - len(measured)} of {len(members)} not measured"] if len(measured) < len(members) else []
-        told = "-" if worst is None else f"{figure(worst[5])} ({case_name(*worst[1:5])})"
+        told = "-" if worst is None else f"{figure(worst[5], 3)} ({case_name(*worst[1:5])})"
         rows.append([WORDS[what], kind, side, f"{limit}", told, ", ".join(said) or "met"])
         bad += [b for b in members if b[5] is None or is_missed(b)]
     lines = table(["of", "kernels", "side", "bar", "largest ratio", ""], rows)
@@ -163,7 +159,7 @@ def bars_part(run):
 
 def told_bar(b):
     name = f"{case_name(*b[1:5])}, {WORDS[b[6]]}, bar {b[0]}"
-    return f"MISSED: {name}: {figure(b[5])}" if b[5] is not None else f"NOT MEASURED: {name}"
+    return f"MISSED: {name}: {figure(b[5], 3)}" if b[5] is not None else f"NOT MEASURED: {name}"
 
 
 def change(run, before, what, *key):
