@@ -18,9 +18,10 @@ use Rattle.evc.specs.Tests.{_when_, first, reply}
 use Rattle.evc.specs.Planes.{Block, tooLow, biPacked}
 use Rattle.evc.specs.Differences.{difference, sadTotal}
 use Rattle.evc.specs.Calls.{depthTest}
-use Rattle.planes.specs.Blocks.{rest, in32, cell, lowMark}
-use Rattle.planes.proofs.Answered.{answered}
-use Rattle.planes.proofs.LowMark.{low-marked}
+use Rattle.planes.specs.Blocks.{rest, cell}
+use Rattle.marks.specs.Marks.{in32, lowMark}
+use Rattle.marks.proofs.Answered.{answered}
+use Rattle.marks.proofs.LowMark.{low-marked}
 use Rattle.planes.proofs.Replies.{Alike}
 use Rattle.compare.proofs.Marked.{samples, marked-value}
 use Rattle.bi.specs.Totals.{BiBlocksTold, BiCounted, apartBi}

@@ -8,7 +8,8 @@ use lib.Bits.{bitOr}
 use lib.IntN.{ℤ, pos, negℤ, natAbs, _-ℤ_}
 use lib.ListN.{length, getD}
 use Rattle.evc.specs.Planes.{tooLow}
-use Rattle.planes.specs.Blocks.{cell, lowMark}
+use Rattle.planes.specs.Blocks.{cell}
+use Rattle.marks.specs.Marks.{lowMark}
 use Rattle.compare.specs.Totals.{Told, Compared}
 
 -- of a bi-prediction value, of which none is below -16,384, and a sample cut to 14 bits

@@ -7,7 +7,7 @@ use lib.IntN.{ℤ, pos, natAbs, _-ℤ_}
 use lib.ListN.{getD}
 use Rattle.integers.specs.Sum.{sumN}
 use Rattle.integers.specs.Or.{orN}
-use Rattle.planes.specs.Blocks.{lowMark}
+use Rattle.marks.specs.Marks.{lowMark}
 use Rattle.compare.specs.Totals.{Told, Compared}
 
 -- how far a bi-prediction value and a sample are apart

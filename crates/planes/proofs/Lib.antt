@@ -1,7 +1,5 @@
 -- Laws that the proofs of the distortion calls share.
 pub mod Far
-pub mod LowMark
-pub mod Answered
 pub mod SmallSides
 pub mod Replies
 pub mod Planes

@@ -1,10 +1,10 @@
 -- Blocks inside planes: the rule of planes as facts, that the rows of a block inside a plane lie inside the buffer, and that they are read as
 -- the definitions read them. Assumes nothing.
-use mathlib.Core.Path.{_≡_, refl, ap, _∙_}
+use mathlib.Core.Path.{_≡_, refl, ap}
 use mathlib.Core.Bool.{false, _||_}
 use mathlib.Core.List.{List}
 use Prim.Native.Nat.{ℕ, _+_, _*_, _-_, _≤_, _<_}
-use native.Mathlib.Nat.{add-mul, mul-le-mul-right, zero-add, le-trans}
+use native.Mathlib.Nat.{add-mul, mul-le-mul-right, le-trans}
 use native.Mathlib.Omega.{arith}
 use lib.Dec.{ltb}
 use lib.ListN.{getD}
@@ -12,7 +12,6 @@ use lib.IntN.{pos}
 use borrow.Author.Tests.{ltb-false}
 use Rattle.order.specs.Positions.{reach}
 use Rattle.order.proofs.Tests.{neither-left, neither-right}
-use Rattle.order.proofs.Rows.{reach-packed}
 use Rattle.evc.specs.Tests.{outside}
 use Rattle.evc.specs.Planes.{planeOf, inPlane}
 use Rattle.evc.proofs.Tests.{outside-no}
@@ -79,10 +78,6 @@ plane-alike l width height stride x y w h depth start e = record {
     place j i = let d = add-mul y j stride in omega arith
 
 -- ---- rows
--- h packed rows of w end after h · w
-pub rows-flat : (w h : ℕ) → 1 ≤ h → reach 0 w w h ≡ h * w
-rows-flat w h p = reach-packed 0 w h p ∙ zero-add (h * w)
-
 -- row j ends no later than the last row
 pub row-in : (s t w h j : ℕ) → j < h → s + j * t + w ≤ reach s w t h
 row-in s t w h j p = let q : j * t ≤ (h - 1) * t = mul-le-mul-right t (omega arith) in omega arith

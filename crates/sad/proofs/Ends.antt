@@ -9,8 +9,9 @@ use Rattle.evc.specs.declared.Refusal.the-variants.{Sample}
 use Rattle.evc.specs.Tests.{_when_, first, reply}
 use Rattle.evc.specs.Differences.{difference, sadTotal}
 use Rattle.evc.specs.Calls.{depthTest}
-use Rattle.planes.specs.Blocks.{rest, in32}
-use Rattle.planes.proofs.Answered.{answered}
+use Rattle.planes.specs.Blocks.{rest}
+use Rattle.marks.specs.Marks.{in32}
+use Rattle.marks.proofs.Answered.{answered}
 use Rattle.planes.proofs.Replies.{marked-rest}
 use Rattle.compare.specs.Totals.{BlocksTold, apart}
 use Rattle.compare.proofs.Samples.{apart-le}

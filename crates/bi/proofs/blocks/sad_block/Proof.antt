@@ -6,7 +6,8 @@ use borrow.Author.Needs.{needs}
 use lib.Bits.{bitOr}
 use lib.IntN.{ℤ, pos}
 use lib.ListN.{length}
-use Rattle.planes.specs.Blocks.{TwoBlocks, cell, lowMark}
+use Rattle.planes.specs.Blocks.{TwoBlocks, cell}
+use Rattle.marks.specs.Marks.{lowMark}
 use Rattle.compare.specs.Totals.{Compared}
 use Rattle.bi.specs.Totals.{apartBi}
 use Rattle.bi.proofs.blocks.sad_block.Statement.{statement}

@@ -9,7 +9,7 @@ use lib.ListN.{getD}
 use mir.Syntax.{w16}
 use mir.Val.{toZ, ofZ}
 use mir.Facts.{toZ-ofZ}
-use Rattle.planes.specs.Blocks.{lowMark}
+use Rattle.marks.specs.Marks.{lowMark}
 use Rattle.bi.specs.Totals.{apartBi}
 use Rattle.compare.proofs.Running.{Running, running-start, running-step, running-end}
 use Rattle.bi.proofs.blocks.sad_row.Statement.{statement}

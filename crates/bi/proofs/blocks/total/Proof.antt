@@ -14,7 +14,8 @@ use Rattle.integers.specs.Or.{ofOr, orN}
 use Rattle.integers.proofs.Sum.{sum-ext}
 use Rattle.order.specs.Positions.{reach}
 use Rattle.evc.proofs.Marks.{below-all}
-use Rattle.planes.specs.Blocks.{TwoBlocks, cell, lowMark}
+use Rattle.planes.specs.Blocks.{TwoBlocks, cell}
+use Rattle.marks.specs.Marks.{lowMark}
 use Rattle.bi.specs.Totals.{apartBi}
 use Rattle.bi.specs.Near.{nearBi, InRuns, AllRunsTold}
 use Rattle.bi.specs.Totals.{BiCounted}

@@ -6,7 +6,7 @@ use lib.IntN.{ℤ, pos, _+ℤ_}
 use lib.ListN.{getD}
 use mir.Facts.{toZ-ofZ}
 use Rattle.evc.specs.Planes.{edge}
-use Rattle.planes.specs.Blocks.{lowMark}
+use Rattle.marks.specs.Marks.{lowMark}
 use Rattle.compare.proofs.Cells.{told-ext}
 use Rattle.compare.proofs.Line.{line-room, line-long, line-length, line-at}
 use borrow.Author.Needs.{needs}

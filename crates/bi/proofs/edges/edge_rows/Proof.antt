@@ -12,7 +12,8 @@ use mir.Facts.{toZ-ofZ}
 use Rattle.integers.specs.Sum.{sumN}
 use Rattle.integers.specs.Or.{orN}
 use Rattle.evc.specs.Planes.{edge}
-use Rattle.planes.specs.Blocks.{cell, lowMark}
+use Rattle.planes.specs.Blocks.{cell}
+use Rattle.marks.specs.Marks.{lowMark}
 use Rattle.planes.proofs.Planes.{row-in}
 use Rattle.compare.specs.Totals.{Told}
 use Rattle.compare.specs.Edges.{edgeCell}

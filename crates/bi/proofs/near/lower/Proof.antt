@@ -4,7 +4,7 @@ use lib.Signed.{_≤ℤ_}
 use mir.Facts.{toZ-ofZ}
 use Rattle.integers.proofs.Order.{<ℤ-≤ℤ}
 use Rattle.integers.proofs.Bits.{lt-held, lt-failed}
-use Rattle.planes.specs.Blocks.{lowMark}
+use Rattle.marks.specs.Marks.{lowMark}
 use Rattle.bi.proofs.Cut.{low-first, low-second}
 use Rattle.bi.proofs.near.lower.Statement.{statement}
 use Rattle.bi.proofs.near.lower.Tie as tie

@@ -10,7 +10,7 @@ use mir.Syntax.{w16}
 use mir.Val.{toZ, ofZ}
 use mir.Facts.{toZ-ofZ}
 use Rattle.integers.proofs.Bits.{back}
-use Rattle.planes.specs.Blocks.{lowMark}
+use Rattle.marks.specs.Marks.{lowMark}
 use Rattle.compare.specs.Totals.{Told}
 use Rattle.bi.specs.Near.{nearBi}
 use Rattle.bi.proofs.Pairs.{Paired, paired-start, paired-step, paired-end}

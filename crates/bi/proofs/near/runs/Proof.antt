@@ -7,7 +7,8 @@ use lib.IntN.{pos}
 use lib.ListN.{length}
 use Rattle.integers.specs.Sum.{sumN}
 use Rattle.integers.specs.Or.{orN}
-use Rattle.planes.specs.Blocks.{cell, lowMark}
+use Rattle.planes.specs.Blocks.{cell}
+use Rattle.marks.specs.Marks.{lowMark}
 use Rattle.compare.specs.Totals.{Told}
 use Rattle.bi.specs.Near.{nearBi, InRuns}
 use Rattle.compare.proofs.Running.{Running, running-start, running-step, running-end}

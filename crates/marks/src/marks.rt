@@ -10,7 +10,7 @@ ghost use Rattle.evc.specs.Answers.{distortionReading};
 ghost use Rattle.evc.specs.declared.Refusal.the-variants as number;
 ghost use Rattle.evc.specs.Tests.{first, reply, _when_};
 ghost use Rattle.evc.specs.Calls.{depthTest};
-ghost use Rattle.planes.specs.Blocks.{lowMark, in32};
+ghost use Rattle.marks.specs.Marks.{lowMark, in32};
 use evc::Distortion;
 use evc::Refusal;
 
@@ -26,7 +26,7 @@ pub fn low_mark(v: i16) -> u16
 pub fn sad_answer(sum: u64, any: u16, depth: u8) -> Distortion
     ensures { λ r. ⌜ distortionReading r ≡ reply (first (depthTest depth ∷ (number.Sample when leb (2 ^ depth) any) ∷ [])) (in32 (sum / 2 ^ (depth - 8))) ⌝ }
 {
-    if crate::tests::wrong_depth(depth) {
+    if planes::wrong_depth(depth) {
         return Distortion::Refused(Refusal::Depth);
     }
     if any >> depth != 0 {

@@ -9,9 +9,9 @@ use borrow.Author.Tests.{lt-ltb, le-ltb, le-leb, lt-leb}
 use Rattle.integers.proofs.Bits.{div-some, div-none}
 use Rattle.evc.specs.Tests.{outside}
 use Rattle.evc.proofs.Tests.{outside-no}
-use Rattle.planes.specs.Blocks.{in32}
-use Rattle.planes.proofs.marks.sad_answer.Statement.{statement}
-use Rattle.planes.proofs.marks.sad_answer.Tie as tie
+use Rattle.marks.specs.Marks.{in32}
+use Rattle.marks.proofs.marks.sad_answer.Statement.{statement}
+use Rattle.marks.proofs.marks.sad_answer.Tie as tie
 
 wrong-depth-requires : tie.Need-wrong-depth-requires
 wrong-depth-requires c κs = search needs

@@ -5,9 +5,9 @@ use Prim.Native.Nat.{ℕ}
 use lib.IntN.{ℤ, pos, negℤ}
 use lib.Signed.{ltZ}
 use mir.Facts.{toZ-ofZ}
-use Rattle.planes.specs.Blocks.{lowMark}
-use Rattle.planes.proofs.marks.low_mark.Statement.{statement}
-use Rattle.planes.proofs.marks.low_mark.Tie as tie
+use Rattle.marks.specs.Marks.{lowMark}
+use Rattle.marks.proofs.marks.low_mark.Statement.{statement}
+use Rattle.marks.proofs.marks.low_mark.Tie as tie
 
 -- the test is of the value's bits
 limit : ℤ → Bool

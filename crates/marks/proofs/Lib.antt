@@ -1,0 +1,3 @@
+-- Laws of marks, that the proofs of the SADs share.
+pub mod LowMark
+pub mod Answered
