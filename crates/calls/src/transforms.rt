@@ -13,7 +13,7 @@ use evc::Part;
 use evc::SubBlock;
 
 fn scale(n: &Numbers) -> Said {
-    answer::of_scale(table::scale(byte(n, 0)))
+    answer::of_scale(scaling::scale(byte(n, 0)))
 }
 
 fn dquant(n: &Numbers, coef: &mut [i16]) -> Said {

@@ -13,7 +13,7 @@ pub(crate) fn scale_of(qp: u8) -> i32
     requires { ⌜ qp ≤ 63 ⌝ }
     ensures { λ r. ⌜ r ≡ scale qp ⌝ }
 {
-    let known = table::scale(qp);
+    let known = scaling::scale(qp);
     match known {
         Scale::Value(v) => v,
         Scale::Refused(_) => 0,

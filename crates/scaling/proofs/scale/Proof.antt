@@ -1,4 +1,4 @@
--- `table::scale` meets its contract: the arms of the `match` give the number of qp % 6, and one test over the 64 values of qp shows that the
+-- `scaling::scale` meets its contract: the arms of the `match` give the number of qp % 6, and one test over the 64 values of qp shows that the
 -- shift of a number's bits is the scale. Assumes nothing.
 use mathlib.Core.Path.{_≡_, ap}
 use mathlib.Core.Bool.{Bool}
@@ -14,10 +14,10 @@ use mir.Val.{toZ}
 use Rattle.integers.proofs.Every.{below, below-at, eqZ, eqZ→eq}
 use Rattle.evc.specs.Dequantizer.{scaleNumbers, scale, scaleReply}
 use Rattle.evc.specs.Answers.{value}
-use Rattle.table.proofs.scaling.scale.Statement.{statement}
-use Rattle.table.proofs.scaling.scale.Tie as tie
-use Rattle.table.proofs.scaling.scale.Lts as lts
-use Rattle.table.proofs.scaling.scale.Reads as reads
+use Rattle.scaling.proofs.scale.Statement.{statement}
+use Rattle.scaling.proofs.scale.Tie as tie
+use Rattle.scaling.proofs.scale.Lts as lts
+use Rattle.scaling.proofs.scale.Reads as reads
 
 -- the scale number of a remainder, which each arm has for its own
 number : ℕ → ℕ
