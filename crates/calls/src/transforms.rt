@@ -80,7 +80,7 @@ fn sub_block(n: &Numbers, coef: &mut [i16]) -> Said {
         u,
         v,
     };
-    answer::of_sub_block(itdq::evc_sub_block_itdq2(coef, call))
+    answer::of_sub_block(sub_blocks::evc_sub_block_itdq2(coef, call))
 }
 
 fn called(tag: u8, n: &Numbers, shorts: &mut [i16], words: &mut [i32]) -> Said {

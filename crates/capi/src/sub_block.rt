@@ -41,5 +41,5 @@ pub extern "C" fn tv_sub_block(
         qp_u,
         qp_v,
     );
-    tell_sub_block(itdq::evc_sub_block_itdq2(coef, call), component)
+    tell_sub_block(sub_blocks::evc_sub_block_itdq2(coef, call), component)
 }

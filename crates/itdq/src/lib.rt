@@ -1,7 +1,32 @@
-// The block job and the sub-block call. The work on one area stands in a private module.
-mod block;
-mod job;
-mod sub_block;
+// `evc_itdq_job`, the block job, after the Rust's `evc_itdq`. Document 01, "Numbers of the domain" and "The two stages".
+// Differs from the Rust in: the job's own area is lent on, where the Rust's driver lends the buffer's tail; offset and shifts are given; all
+// tests are made first, and a refused job has written nothing.
+ghost use mathlib.Core.Path.{_≡_};
+ghost use lib.ListN.{length};
+ghost use Rattle.evc.specs.Answers.{answerNumber};
+ghost use Rattle.evc.specs.Jobs.{jobNumber, jobExit};
+use evc::Answer;
+use evc::Job;
 
-pub use job::evc_itdq_job;
-pub use sub_block::evc_sub_block_itdq2;
+pub fn evc_itdq_job(coef: &mut [i16], job: Job) -> Answer
+    ensures answer { λ r. ⌜ answerNumber r ≡ jobNumber (length (now (coef .entry))) job ⌝ }
+    ensures exit { λ r. ⌜ now (coef .exit) ≡ jobExit job (now (coef .entry)) ⌝ }
+{
+    let answer = refusals::job(coef.len(), job);
+    if let Answer::Refused(_) = answer {
+        return answer;
+    }
+    let by = scaling::scale_of(job.qp);
+    let start = job.start;
+    let end = start + (1usize << (job.logw + job.logh));
+    dquant::evc_dquant(
+        &mut coef[start..end],
+        job.logw,
+        job.logh,
+        by,
+        job.offset,
+        job.dqshift,
+    );
+    both::both_stages(&mut coef[start..end], job.logw, job.logh, job.itshift);
+    Answer::Done
+}

@@ -1,0 +1,29 @@
+-- `both::small` meets its contract: the prefix that is lent is as many zeros as the area has samples. Assumes nothing.
+use mathlib.Core.Path.{sym}
+use lib.Seq.{length-take-le}
+use borrow.Author.Needs.{needs}
+use Rattle.both.proofs.Ends.{by-zeros}
+use Rattle.both.proofs.small.Statement.{statement}
+use Rattle.both.proofs.small.Tie as tie
+
+array-borrow-prefix-between : tie.Need-array-borrow-prefix-between
+array-borrow-prefix-between c = search needs
+
+slice-aggregate-stages-over : tie.Need-slice-aggregate-stages-over
+slice-aggregate-stages-over c = sym (length-take-le _ _ (c .before .before .pre))
+
+stages-over-requires : tie.Need-stages-over-requires
+stages-over-requires c κs = search needs
+
+same-length : tie.Need-same-length
+same-length c = search needs
+
+returns : tie.Need-returns
+returns c =
+    let start = c .before .before .before .before .before in
+    by-zeros (start .args .logw) (start .args .logh) (start .args .shift) (start .args .part .now) 64 (start .pre) _ (c .before .before .stages-over .ensures)
+
+pub small-spec : {M : Type 1} → statement M
+small-spec =
+    tie.close
+    (tie.spec array-borrow-prefix-between slice-aggregate-stages-over stages-over-requires same-length returns)

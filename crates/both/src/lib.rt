@@ -1,0 +1,68 @@
+// Both stages of the inverse transform on one area, with the block between them. Document 01, "The two stages".
+// Differs from the Rust in: the area is lent and no more of the buffer; the block between is the call's own, and no longer than 16, 64, 1,024 or
+// 4,096 samples, since clearing it costs more than a small job.
+ghost use mathlib.Core.Path.{_≡_};
+ghost use Prim.Native.Nat.{_≤_};
+ghost use lib.ListN.{length};
+ghost use Rattle.evc.specs.Stages.{itxb0Exit, itxb1Exit};
+ghost use Rattle.both.specs.Both.{through, bothExit};
+
+// Both stages, with a block between them. Stage one has the size height and width lines, stage two the size width and height lines.
+fn stages_over(part: &mut [i16], between: &mut [i32], logw: usize, logh: usize, shift: u8)
+    ensures { λ _. ⌜ now (part .exit) ≡ itxb1Exit logw logh shift (itxb0Exit logh logw (now (part .entry)) (now (between .entry))) (now (part .entry)) ⌝ }
+{
+    stages::itxb0(&part[..], &mut between[..], logh, logw);
+    stages::itxb1(&between[..], &mut part[..], logw, logh, shift);
+}
+
+// The block between the stages is as long as the area: cut from the smallest of four that is enough.
+fn tiny(part: &mut [i16], logw: usize, logh: usize, shift: u8)
+    requires { ⌜ length (now part) ≤ 16 ⌝ }
+    ensures { λ _. ⌜ now (part .exit) ≡ through logw logh shift (now (part .entry)) ⌝ }
+{
+    let n = part.len();
+    let mut between = [0i32; 16];
+    stages_over(&mut part[..], &mut between[..n], logw, logh, shift);
+}
+
+fn small(part: &mut [i16], logw: usize, logh: usize, shift: u8)
+    requires { ⌜ length (now part) ≤ 64 ⌝ }
+    ensures { λ _. ⌜ now (part .exit) ≡ through logw logh shift (now (part .entry)) ⌝ }
+{
+    let n = part.len();
+    let mut between = [0i32; 64];
+    stages_over(&mut part[..], &mut between[..n], logw, logh, shift);
+}
+
+fn middle(part: &mut [i16], logw: usize, logh: usize, shift: u8)
+    requires { ⌜ length (now part) ≤ 1024 ⌝ }
+    ensures { λ _. ⌜ now (part .exit) ≡ through logw logh shift (now (part .entry)) ⌝ }
+{
+    let n = part.len();
+    let mut between = [0i32; 1024];
+    stages_over(&mut part[..], &mut between[..n], logw, logh, shift);
+}
+
+fn large(part: &mut [i16], logw: usize, logh: usize, shift: u8)
+    requires { ⌜ length (now part) ≤ 4096 ⌝ }
+    ensures { λ _. ⌜ now (part .exit) ≡ through logw logh shift (now (part .entry)) ⌝ }
+{
+    let n = part.len();
+    let mut between = [0i32; 4096];
+    stages_over(&mut part[..], &mut between[..n], logw, logh, shift);
+}
+
+// Both stages on exactly an area. No area is longer than 4,096 samples, and nothing longer is touched.
+pub fn both_stages(part: &mut [i16], logw: usize, logh: usize, shift: u8)
+    ensures { λ _. ⌜ now (part .exit) ≡ bothExit logw logh shift (now (part .entry)) ⌝ }
+{
+    if part.len() <= 16 {
+        tiny(&mut part[..], logw, logh, shift);
+    } else if part.len() <= 64 {
+        small(&mut part[..], logw, logh, shift);
+    } else if part.len() <= 1024 {
+        middle(&mut part[..], logw, logh, shift);
+    } else if part.len() <= 4096 {
+        large(&mut part[..], logw, logh, shift);
+    }
+}

@@ -1,0 +1,2 @@
+-- Laws of the scale.
+pub mod Scales

@@ -1,0 +1,131 @@
+-- `sub_blocks::component` meets its contract, as `evc_itdq_job` does from where its tests have passed. Assumes nothing.
+use mathlib.Core.Path.{_≡_, _∙_}
+use native.Mathlib.Omega.{arith}
+use Prim.Native.Nat.{ℕ, _+_, _*_, _^_, _%_, _≤_}
+use lib.ListN.{length}
+use mir.Syntax.{w32, w64}
+use mir.Val.{toZ, ofZ}
+use Rattle.integers.proofs.Bits.{one-shl}
+use Rattle.evc.specs.Tests.{samplesOf}
+use Rattle.evc.specs.Dequantizer.{scale}
+use Rattle.evc.specs.Jobs.{jobNumber}
+use Rattle.evc.proofs.Jobs.{accepted}
+use Rattle.scaling.proofs.Scales.{scale-known}
+use Rattle.both.proofs.Areas.{area-inside, left-inside, lent-done}
+use Rattle.sub_blocks.proofs.SubBlocks.{flagged-job}
+use borrow.Author.Needs.{needs}
+use Rattle.sub_blocks.proofs.component.Statement.{statement}
+use Rattle.sub_blocks.proofs.component.Tie as tie
+
+-- ---- where it is flagged, so that its tests have passed
+module _ (c : tie.After-struct-known) where
+  abbrev start : tie.Start
+  start = c .before .before .before
+
+  passed : jobNumber (length (start .args .coef .now)) (start .args .job) ≡ 0
+  passed = start .pre (c .before .before .if1 .taken)
+
+  sum : start .args .job .logw + start .args .job .logh ≤ 12
+  sum = let a = accepted _ _ passed in omega arith
+
+  -- the size of the area, as the code computes it
+  abbrev size : ℕ
+  size = (1 * 2 ^ (start .args .job .logw + start .args .job .logh)) % 2 ^ 64
+
+  sized : size ≡ samplesOf (start .args .job .logw) (start .args .job .logh)
+  sized = one-shl w64 (start .args .job .logw + start .args .job .logh) (omega (arith, sum))
+
+  inside : start .args .job .start + size ≤ length (start .args .coef .now)
+  inside = area-inside (start .args .coef .now) (start .args .job) passed size sized
+
+  by : toZ w32 (ofZ w32 (c .before .scale-of .result)) ≡ scale (start .args .job .qp)
+  by =
+      let r = c .before .scale-of .result in
+      let g : toZ w32 (ofZ w32 r) ≡ r = search needs in
+      g ∙ c .before .scale-of .ensures ∙ scale-known _ (accepted _ _ passed .qp63)
+
+  off : toZ w32 (ofZ w32 (start .args .job .offset)) ≡ start .args .job .offset
+  off = search needs
+
+scale-of-requires : tie.Need-scale-of-requires
+scale-of-requires c κs = search needs
+
+add-end : tie.Need-add-end
+add-end c = omega (arith, sum c)
+
+shl-end : tie.Need-shl-end
+shl-end c = omega (arith, sum c)
+
+add-end-2 : tie.Need-add-end-2
+add-end-2 c = omega (arith, inside c, start c .good)
+
+mul-evc-dquant : tie.Need-mul-evc-dquant
+mul-evc-dquant c = omega (arith, inside c, start c .good)
+
+sub-evc-dquant : tie.Need-sub-evc-dquant
+sub-evc-dquant c = search needs
+
+part-evc-dquant-start : tie.Need-part-evc-dquant-start
+part-evc-dquant-start c = search needs
+
+part-evc-dquant-end : tie.Need-part-evc-dquant-end
+part-evc-dquant-end c = inside c
+
+evc-dquant-requires : tie.Need-evc-dquant-requires
+evc-dquant-requires c κs = search needs
+
+-- ---- where the dequantizer has done its part
+abbrev known : tie.After-coef → tie.After-struct-known
+known c = c .before .before .before .before
+
+mul-both-stages : tie.Need-mul-both-stages
+mul-both-stages c =
+    let k = known c in
+    let r = left-inside (start k .args .coef .now) (start k .args .job) (passed k) (size k) (sized k) _ _ _ (by k) (off k) (c .before .evc-dquant .ensures .1) in
+    omega (arith, start k .good)
+
+sub-both-stages : tie.Need-sub-both-stages
+sub-both-stages c = search needs
+
+part-both-stages-start : tie.Need-part-both-stages-start
+part-both-stages-start c = search needs
+
+part-both-stages-end : tie.Need-part-both-stages-end
+part-both-stages-end c = let k = known c in left-inside (start k .args .coef .now) (start k .args .job) (passed k) (size k) (sized k) _ _ _ (by k) (off k) (c .before .evc-dquant .ensures .1)
+
+both-stages-requires : tie.Need-both-stages-requires
+both-stages-requires c κs = search needs
+
+same-length : tie.Need-same-length
+same-length c = search needs
+
+returns : tie.Need-returns
+returns c =
+    let k = known (c .before .before .before) in
+    lent-done (start k .args .coef .now) (start k .args .job) (passed k) (size k) (sized k) _ _ _ (by k) (off k) (c .before .before .before .before .evc-dquant .ensures .1) _ (c .before .both-stages .ensures)
+    ∙ flagged-job _ _ _ (k .before .before .if1 .taken)
+
+returns-2 : tie.Need-returns-2
+returns-2 c = search needs
+
+pub component-spec : {M : Type 1} → statement M
+component-spec =
+    tie.close
+    (tie.spec
+    scale-of-requires
+    add-end
+    shl-end
+    add-end-2
+    mul-evc-dquant
+    sub-evc-dquant
+    part-evc-dquant-start
+    part-evc-dquant-end
+    evc-dquant-requires
+    mul-both-stages
+    sub-both-stages
+    part-both-stages-start
+    part-both-stages-end
+    both-stages-requires
+    same-length
+    returns
+    returns-2)
