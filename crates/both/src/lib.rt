@@ -15,25 +15,8 @@ fn stages_over(part: &mut [i16], between: &mut [i32], logw: usize, logh: usize, 
     stages::itxb1(&between[..], &mut part[..], logw, logh, shift);
 }
 
-// The block between the stages is as long as the area: cut from the smallest of four that is enough.
-fn tiny(part: &mut [i16], logw: usize, logh: usize, shift: u8)
-    requires { ⌜ length (now part) ≤ 16 ⌝ }
-    ensures { λ _. ⌜ now (part .exit) ≡ through logw logh shift (now (part .entry)) ⌝ }
-{
-    let n = part.len();
-    let mut between = [0i32; 16];
-    stages_over(&mut part[..], &mut between[..n], logw, logh, shift);
-}
-
-fn small(part: &mut [i16], logw: usize, logh: usize, shift: u8)
-    requires { ⌜ length (now part) ≤ 64 ⌝ }
-    ensures { λ _. ⌜ now (part .exit) ≡ through logw logh shift (now (part .entry)) ⌝ }
-{
-    let n = part.len();
-    let mut between = [0i32; 64];
-    stages_over(&mut part[..], &mut between[..n], logw, logh, shift);
-}
-
+// The block between the stages is as long as the area: cut from the smallest of four that is enough. The two large ones have a function each, so
+// that they lie in the same place of the stack.
 fn middle(part: &mut [i16], logw: usize, logh: usize, shift: u8)
     requires { ⌜ length (now part) ≤ 1024 ⌝ }
     ensures { λ _. ⌜ now (part .exit) ≡ through logw logh shift (now (part .entry)) ⌝ }
@@ -56,13 +39,16 @@ fn large(part: &mut [i16], logw: usize, logh: usize, shift: u8)
 pub fn both_stages(part: &mut [i16], logw: usize, logh: usize, shift: u8)
     ensures { λ _. ⌜ now (part .exit) ≡ bothExit logw logh shift (now (part .entry)) ⌝ }
 {
-    if part.len() <= 16 {
-        tiny(&mut part[..], logw, logh, shift);
-    } else if part.len() <= 64 {
-        small(&mut part[..], logw, logh, shift);
-    } else if part.len() <= 1024 {
-        middle(&mut part[..], logw, logh, shift);
-    } else if part.len() <= 4096 {
-        large(&mut part[..], logw, logh, shift);
+    let n = part.len();
+    if n <= 16 {
+        let mut between = [0i32; 16];
+        stages_over(part, &mut between[..n], logw, logh, shift);
+    } else if n <= 64 {
+        let mut between = [0i32; 64];
+        stages_over(part, &mut between[..n], logw, logh, shift);
+    } else if n <= 1024 {
+        middle(part, logw, logh, shift);
+    } else if n <= 4096 {
+        large(part, logw, logh, shift);
     }
 }

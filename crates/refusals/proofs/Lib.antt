@@ -2,5 +2,3 @@
 pub mod Laws
 pub mod Matches
 pub mod Areas
-pub mod Overlaps
-pub mod SubTests

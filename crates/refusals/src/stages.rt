@@ -3,28 +3,20 @@
 ghost use mathlib.Core.Path.{_≡_};
 ghost use Rattle.evc.specs.Answers.{answerNumber};
 ghost use Rattle.evc.specs.Stages.{stageOneNumber, stageTwoNumber};
-use crate::limits::beyond;
-use crate::limits::samples;
 use evc::Answer;
 use evc::Refusal;
 
 pub fn stage_two(src: usize, dst: usize, log2_size: usize, log2_line: usize, shift: u8) -> Answer
     ensures { λ r. ⌜ answerNumber r ≡ stageTwoNumber src dst «log2_size» «log2_line» shift ⌝ }
 {
-    if beyond(1, 6, log2_size) {
-        return Answer::Refused(Refusal::Size);
-    }
-    if 6 < log2_line {
+    if (log2_size < 1) | (6 < log2_size) | (6 < log2_line) {
         return Answer::Refused(Refusal::Size);
     }
     if 31 < shift {
         return Answer::Refused(Refusal::Shift);
     }
-    let n = samples(log2_size, log2_line);
-    if src < n {
-        return Answer::Refused(Refusal::Area);
-    }
-    if dst < n {
+    let n = 1usize << (log2_size + log2_line);
+    if (src < n) | (dst < n) {
         return Answer::Refused(Refusal::Area);
     }
     Answer::Done

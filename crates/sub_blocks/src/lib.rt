@@ -9,11 +9,11 @@ ghost use Rattle.order.specs.Jobs.{jobs};
 ghost use Rattle.evc.specs.Answers.{subReading};
 ghost use Rattle.evc.specs.Jobs.{jobNumber, blockJobs};
 ghost use Rattle.evc.specs.SubBlocks.{given, subReply, subExit};
+use components::chroma_job;
+use components::luma_job;
 use evc::Job;
 use evc::SubAnswer;
 use evc::SubBlock;
-use refusals::chroma_job;
-use refusals::luma_job;
 
 // A component's job, where it is flagged. Its tests have passed, so that they are not made again: the steps are those of `evc_itdq_job`.
 fn component(coef: &mut [i16], flag: bool, job: Job)
@@ -40,7 +40,7 @@ pub fn evc_sub_block_itdq2(coef: &mut [i16], call: SubBlock) -> SubAnswer
     ensures answer { λ r. ⌜ subReading r ≡ subReply (length (now (coef .entry))) call ⌝ }
     ensures exit { λ r. ⌜ now (coef .exit) ≡ subExit call (now (coef .entry)) ⌝ }
 {
-    let answer = refusals::sub_block(coef.len(), call);
+    let answer = components::sub_block(coef.len(), call);
     if let SubAnswer::Done = answer {
         component(&mut coef[..], call.y.flag, luma_job(call, call.y));
         component(&mut coef[..], call.u.flag, chroma_job(call, call.u));

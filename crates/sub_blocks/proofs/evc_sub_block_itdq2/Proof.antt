@@ -3,7 +3,7 @@ use mathlib.Core.Path.{sym, _∙_}
 use lib.ListN.{length}
 use Rattle.evc.specs.declared.SubBlock.{SubBlock}
 use Rattle.evc.proofs.SubBlocks.{AllPassed, all-passed, luma-accepted, chroma-accepted, sub-refused}
-use Rattle.refusals.proofs.Matches.{sub-done, sub-not-done}
+use Rattle.components.proofs.Matches.{sub-done, sub-not-done}
 use Rattle.sub_blocks.proofs.SubBlocks.{sub-left}
 use borrow.Author.Needs.{needs}
 use Rattle.sub_blocks.proofs.evc_sub_block_itdq2.Statement.{statement}

@@ -1,64 +1,49 @@
 -- `refusals::stages::stage_two` meets its contract: each return by the tests that led there. Assumes nothing.
-use borrow.Author.Needs.{needs}
-use mathlib.Core.Path.{_≡_, sym}
-use mathlib.Core.Bool.{Bool, true, false}
-use mathlib.Core.List.{List}
+use native.Mathlib.Omega.{arith}
+use Prim.Native.Nat.{ℕ, _+_, _*_, _^_, _%_, _≤_}
+use mathlib.Core.Path.{_≡_}
+use mathlib.Core.Bool.{false, _||_}
 use lib.Dec.{ltb}
-use Rattle.evc.specs.Tests.{Test, samplesOf}
-use Rattle.evc.specs.Stages.{stageTwoTests, stageTwoNumber}
-use Rattle.evc.proofs.Tests.{first-none, first-at, outside-no}
-use Rattle.refusals.proofs.Laws.{told, called, lt-as, le-as}
+use borrow.Author.Tests.{ltb-false}
+use mir.Syntax.{w64}
+use Rattle.order.proofs.Tests.{or-neither}
+use Rattle.integers.proofs.Bits.{one-shl}
+use Rattle.evc.specs.Tests.{outside, samplesOf}
+use Rattle.evc.proofs.Tests.{outside-no}
+use Rattle.refusals.proofs.Laws.{stage-size, stage-shift, stage-area, stage-none}
+use borrow.Author.Needs.{needs}
 use Rattle.refusals.proofs.stages.stage_two.Statement.{statement}
 use Rattle.refusals.proofs.stages.stage_two.Tie as tie
 
--- the call's tests
-abbrev tests : tie.Start → List Test
-tests c = stageTwoTests (c .args .src) (c .args .dst) (c .args .log2-size) (c .args .log2-line) (c .args .shift)
-
-beyond-requires : tie.Need-beyond-requires
-beyond-requires c κs = search needs
-
 returns : tie.Need-returns
-unfolding stageTwoNumber
-returns c = first-at (tests (c .before .before)) 0 (search called)
+returns c = stage-size _ _ _ _ _ (c .if1 .taken)
 
 returns-2 : tie.Need-returns-2
-unfolding stageTwoNumber
-returns-2 c = first-at (tests (c .before .before .before)) 1 (search called)
+returns-2 c = stage-shift _ _ _ _ _ (c .before .if1 .left) (c .if2 .taken)
+
+-- the sizes have passed
+sum : (c : tie.Else1) → c .before .args .log2-size + c .before .args .log2-line ≤ 12
+sum c =
+    let n = c .before .args .log2-size in
+    let l = c .before .args .log2-line in
+    let s : outside 1 6 n || ltb 6 l ≡ false = c .if1 .left in
+    let o = or-neither (outside 1 6 n) (ltb 6 l) s in
+    omega (arith, outside-no 1 6 n (o .0) .1, ltb-false 6 l (o .1))
+
+sized : (c : tie.Else1) → (1 * 2 ^ (c .before .args .log2-size + c .before .args .log2-line)) % 2 ^ 64 ≡ samplesOf (c .before .args .log2-size) (c .before .args .log2-line)
+sized c = one-shl w64 (c .before .args .log2-size + c .before .args .log2-line) (omega (arith, sum c))
+
+add-n : tie.Need-add-n
+add-n c = omega (arith, sum (c .before))
+
+shl-n : tie.Need-shl-n
+shl-n c = omega (arith, sum (c .before))
 
 returns-3 : tie.Need-returns-3
-unfolding stageTwoNumber
-returns-3 c = first-at (tests (c .before .before .before .before)) 2 (search called)
-
-abbrev start : tie.Else3 → tie.Start
-start c = c .before .before .before .before
-
-samples-requires : tie.Need-samples-requires
-samples-requires c κs =
-    let h = outside-no 1 6 (start c .args .log2-size) (told (c .before .before .before .beyond .ensures) (c .before .before .if1 .left)) in
-    (h .1, c .before .if2 .left)
+returns-3 c = stage-area _ _ _ _ _ (c .before .before .if1 .left) (c .before .if2 .left) _ (sized (c .before .before)) (c .if3 .taken)
 
 returns-4 : tie.Need-returns-4
-unfolding stageTwoNumber
-returns-4 c =
-    let s = lt-as (c .before .samples .ensures) (c .if4 .taken) in
-    first-at (tests (start (c .before .before))) 3 (search called)
-
-returns-5 : tie.Need-returns-5
-unfolding stageTwoNumber
-returns-5 c =
-    let s = le-as (c .before .before .samples .ensures) (c .before .if4 .left) in
-    let d = lt-as (c .before .before .samples .ensures) (c .if5 .taken) in
-    first-at (tests (start (c .before .before .before))) 4 (search called)
-
-returns-6 : tie.Need-returns-6
-unfolding stageTwoNumber
-returns-6 c =
-    let s = le-as (c .before .before .samples .ensures) (c .before .if4 .left) in
-    let d = le-as (c .before .before .samples .ensures) (c .if5 .left) in
-    sym (first-none (tests (start (c .before .before .before))) (search called))
+returns-4 c = stage-none _ _ _ _ _ (c .before .before .if1 .left) (c .before .if2 .left) _ (sized (c .before .before)) (c .if3 .left)
 
 pub stage-two-spec : {M : Type 1} → statement M
-stage-two-spec =
-    tie.close
-    (tie.spec beyond-requires returns returns-2 returns-3 samples-requires returns-4 returns-5 returns-6)
+stage-two-spec = tie.close (tie.spec returns returns-2 add-n shl-n returns-3 returns-4)

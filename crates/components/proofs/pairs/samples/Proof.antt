@@ -1,0 +1,25 @@
+-- `components::pairs::samples` meets its contract: a log of at most 6 is its own remainder. Assumes nothing.
+use native.Mathlib.Omega.{arith}
+use Prim.Native.Nat.{ℕ, _+_, _%_}
+use mathlib.Core.Path.{_≡_, _∙_}
+use mir.Syntax.{w64}
+use Rattle.integers.proofs.Bits.{one-shl}
+use borrow.Author.Needs.{needs}
+use Rattle.components.proofs.pairs.samples.Statement.{statement}
+use Rattle.components.proofs.pairs.samples.Tie as tie
+
+add-result : tie.Need-add-result
+add-result c = search needs
+
+shl-result : tie.Need-shl-result
+shl-result c = search needs
+
+returns : tie.Need-returns
+returns c s =
+    let j = c .before .before .args .job in
+    let w : j .logw % 8 ≡ j .logw = omega (arith, s .w6) in
+    let h : j .logh % 8 ≡ j .logh = omega (arith, s .h6) in
+    one-shl w64 (j .logw % 8 + j .logh % 8) (omega arith) ∙ rw (w, h)
+
+pub samples-spec : {M : Type 1} → statement M
+samples-spec = tie.close (tie.spec add-result shl-result returns)
