@@ -4,7 +4,7 @@ use native.Mathlib.Nat.{add-sub-cancel-left}
 use native.Mathlib.Omega.{arith}
 use mathlib.Core.Path.{_≡_, sym, ap, _∙_}
 use mathlib.Core.List.{List, _++_, map}
-use lib.ListN.{length, take, drop, length-drop, length-map, length-append}
+use lib.ListN.{length, take, drop, length-drop, length-map}
 use lib.Seq.{length-take-le, take-at, drop-at}
 use lib.IntN.{ℤ, pos}
 use Rattle.order.proofs.Rows.{change-row}
@@ -39,9 +39,6 @@ module _ (b y : List ℤ) (s k : ℕ) (room : s + k ≤ length b) (long : length
   back-rest : drop k (drop s (back b y s k)) ≡ drop k (drop s b)
   back-rest = ap (drop k) back-drop ∙ drop-at y _ k long
 
-  back-long : length (back b y s k) ≡ length b
-  back-long = simp (length-append, length-drop) (omega (arith, front, long))
-
 -- ---- n is the size of the job's area as the code has it, and what the job lends of the buffer b is exactly the area
 module _ (b : List ℤ) (j : Job) (z : jobNumber (length b) j ≡ 0) (n : ℕ) (e : n ≡ samplesOf (j .logw) (j .logh)) where
   -- the part's length as the code writes it, from the start and the end
@@ -74,9 +71,6 @@ module _ (b : List ℤ) (j : Job) (z : jobNumber (length b) j ≡ 0) (n : ℕ) (
     -- the buffer then, and the part that is lent of it to both stages
     abbrev left : List ℤ
     left = back b y (j .start) k
-
-    pub left-inside : j .start + n ≤ length left
-    left-inside = omega (arith, area-inside, back-long b y (j .start) k inside y-long)
 
     lent-block : Block (length (take k (drop (j .start) left))) (j .logw) (j .logh) (j .itshift)
     lent-block =

@@ -14,7 +14,7 @@ use Rattle.evc.proofs.Jobs.{accepted}
 use Rattle.evc.proofs.AnyOrder.{refused-unchanged}
 use Rattle.refusals.proofs.Matches.{is-done, not-done}
 use Rattle.scaling.proofs.Scales.{scale-known}
-use Rattle.both.proofs.Areas.{area-inside, left-inside, lent-done}
+use Rattle.both.proofs.Areas.{area-inside, lent-done}
 use borrow.Author.Needs.{needs}
 use Rattle.itdq.proofs.evc_itdq_job.Statement.{statement}
 use Rattle.itdq.proofs.evc_itdq_job.Tie as tie
@@ -98,10 +98,7 @@ abbrev known : tie.After-coef → tie.After-struct-known
 known c = c .before .before .before .before
 
 mul-both-stages : tie.Need-mul-both-stages
-mul-both-stages c =
-    let k = known c in
-    let r = left-inside (start k .args .coef .now) (start k .args .job) (passed k) (size k) (sized k) _ _ _ (by k) (off k) (c .before .evc-dquant .ensures .1) in
-    omega (arith, start k .good .0 .1)
+mul-both-stages c = let k = known c in omega (arith, inside k, c .coef .given, start k .good .0 .1)
 
 sub-both-stages : tie.Need-sub-both-stages
 sub-both-stages c = search needs
@@ -110,7 +107,7 @@ part-both-stages-start : tie.Need-part-both-stages-start
 part-both-stages-start c = search needs
 
 part-both-stages-end : tie.Need-part-both-stages-end
-part-both-stages-end c = let k = known c in left-inside (start k .args .coef .now) (start k .args .job) (passed k) (size k) (sized k) _ _ _ (by k) (off k) (c .before .evc-dquant .ensures .1)
+part-both-stages-end c = omega (arith, inside (known c), c .coef .given)
 
 both-stages-requires : tie.Need-both-stages-requires
 both-stages-requires c κs = search needs
