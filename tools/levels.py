@@ -32,12 +32,14 @@ def code(m):
             f"    requires {{ ⌜ All (now s) (now e) {m} {g} ⌝ }}",
             f"    ensures {{ λ _. ⌜ All (now (s .entry)) (now (e .exit)) {m} {g + 8} ⌝ }}",
             "{",
-            "    let t = table::table();",
+            "    let all = table::table();",
             "    for j in 0..16 {",
-            f"        let mut x = [0i32; {m}];",
-            f"        pick(s, &mut x, {m}, {q}, j);",
+            f"        let mut picked = [0i32; {m}];",
+            f"        pick(s, &mut picked, {m}, {q}, j);",
+            "        let t = &all;",
+            "        let x = &picked[..];",
         ]
-        out += [f"        places(&t, s, &x, e, {m}, {n}, {n + FEW[m]}, j);" for n in range(g, g + 8, FEW[m])]
+        out += [f"        places(t, s, x, e, {m}, {n}, {n + FEW[m]}, j);" for n in range(g, g + 8, FEW[m])]
         out += ["    }", "}", ""]
     out += [
         f"pub(crate) fn level{m}(s: &[i16; 1024], e: &mut [i32])",
@@ -78,8 +80,8 @@ def called(name, k):
 
 
 def rows(m, g):
-    """The loop over the lanes. It binds the table, the loop, its test; the array, the loan of it, `pick`, and the loan's end; then, of each call,
-    the loans of table, inputs and e, the call, and the loan's end."""
+    """The loop over the lanes. It binds the table, the loop, its test; the loan of the array, `pick`, and the loan's end; the loans of table and
+    inputs, which all calls share; then, of each call, the loan of e, the call, and the loan's end."""
     q, few = 32 // m, FEW[m]
     calls = 8 // few
     uses = [
@@ -104,16 +106,16 @@ def rows(m, g):
         ("slice-aggregate-pick", "", "refl"),
         ("pick-requires", " κs", "(refl, record { some = lit< tt; rows = lit≤ tt; column = lit< tt; among = c .before .loop-test .taken })"),
     ]
-    # from the i-th call's loans back to the loop's test, and to `pick`
-    test = lambda i: 6 + 5 * i
-    picked = lambda i: 4 + 5 * i
+    needs.append(("slice-aggregate-x", "", f"sym (c{back(3)} .pick .ensures .long)"))
+    # from the i-th call's loan back to the loop's test, and to `pick`
+    test = lambda i: 6 + 3 * i
+    picked = lambda i: 4 + 3 * i
     for i in range(calls):
         k = test(i)
-        lane = f"c{back(4)} .{called('places', i)} .ensures .lane" if i else f"next-lane (c{back(k + 3)} .pre .level) (c{back(k + 1)} .loop .inv) (c{back(k)} .loop-test .taken)"
-        needs.append((nth("slice-aggregate-places", i + 1), "", f"sym (c{back(picked(i) - 1)} .pick .ensures .long)"))
+        lane = f"c{back(2)} .{called('places', i)} .ensures .lane" if i else f"next-lane (c{back(k + 3)} .pre .level) (c{back(k + 1)} .loop .inv) (c{back(k)} .loop-test .taken)"
         given = f"record {{ table = c{back(k + 2)} .table .ensures; lane = {lane}; picks = c{back(picked(i))} .pick .ensures }}"
         needs.append((nth("places-requires", i + 1), " κs", f"({given}, (lit≤ tt, lit≤ tt))"))
-    put = lambda i: f"c{back(5 * (calls - 1 - i) + 1)} .{called('places', i + 1)} .ensures"
+    put = lambda i: f"c{back(3 * (calls - 1 - i) + 1)} .{called('places', i + 1)} .ensures"
     kept = f"{put(calls - 1)} .kept"
     for i in reversed(range(calls - 1)):
         kept = f"kept-then ({put(i)} .kept) ({kept})"

@@ -10,12 +10,14 @@ fn rows16_0(s: &[i16; 1024], e: &mut [i32])
     requires { ⌜ All (now s) (now e) 16 0 ⌝ }
     ensures { λ _. ⌜ All (now (s .entry)) (now (e .exit)) 16 8 ⌝ }
 {
-    let t = table::table();
+    let all = table::table();
     for j in 0..16 {
-        let mut x = [0i32; 16];
-        pick(s, &mut x, 16, 2, j);
-        places(&t, s, &x, e, 16, 0, 4, j);
-        places(&t, s, &x, e, 16, 4, 8, j);
+        let mut picked = [0i32; 16];
+        pick(s, &mut picked, 16, 2, j);
+        let t = &all;
+        let x = &picked[..];
+        places(t, s, x, e, 16, 0, 4, j);
+        places(t, s, x, e, 16, 4, 8, j);
     }
 }
 
@@ -24,12 +26,14 @@ fn rows16_8(s: &[i16; 1024], e: &mut [i32])
     requires { ⌜ All (now s) (now e) 16 8 ⌝ }
     ensures { λ _. ⌜ All (now (s .entry)) (now (e .exit)) 16 16 ⌝ }
 {
-    let t = table::table();
+    let all = table::table();
     for j in 0..16 {
-        let mut x = [0i32; 16];
-        pick(s, &mut x, 16, 2, j);
-        places(&t, s, &x, e, 16, 8, 12, j);
-        places(&t, s, &x, e, 16, 12, 16, j);
+        let mut picked = [0i32; 16];
+        pick(s, &mut picked, 16, 2, j);
+        let t = &all;
+        let x = &picked[..];
+        places(t, s, x, e, 16, 8, 12, j);
+        places(t, s, x, e, 16, 12, 16, j);
     }
 }
 

@@ -10,14 +10,16 @@ fn rows32_0(s: &[i16; 1024], e: &mut [i32])
     requires { ⌜ All (now s) (now e) 32 0 ⌝ }
     ensures { λ _. ⌜ All (now (s .entry)) (now (e .exit)) 32 8 ⌝ }
 {
-    let t = table::table();
+    let all = table::table();
     for j in 0..16 {
-        let mut x = [0i32; 32];
-        pick(s, &mut x, 32, 1, j);
-        places(&t, s, &x, e, 32, 0, 2, j);
-        places(&t, s, &x, e, 32, 2, 4, j);
-        places(&t, s, &x, e, 32, 4, 6, j);
-        places(&t, s, &x, e, 32, 6, 8, j);
+        let mut picked = [0i32; 32];
+        pick(s, &mut picked, 32, 1, j);
+        let t = &all;
+        let x = &picked[..];
+        places(t, s, x, e, 32, 0, 2, j);
+        places(t, s, x, e, 32, 2, 4, j);
+        places(t, s, x, e, 32, 4, 6, j);
+        places(t, s, x, e, 32, 6, 8, j);
     }
 }
 
@@ -26,14 +28,16 @@ fn rows32_8(s: &[i16; 1024], e: &mut [i32])
     requires { ⌜ All (now s) (now e) 32 8 ⌝ }
     ensures { λ _. ⌜ All (now (s .entry)) (now (e .exit)) 32 16 ⌝ }
 {
-    let t = table::table();
+    let all = table::table();
     for j in 0..16 {
-        let mut x = [0i32; 32];
-        pick(s, &mut x, 32, 1, j);
-        places(&t, s, &x, e, 32, 8, 10, j);
-        places(&t, s, &x, e, 32, 10, 12, j);
-        places(&t, s, &x, e, 32, 12, 14, j);
-        places(&t, s, &x, e, 32, 14, 16, j);
+        let mut picked = [0i32; 32];
+        pick(s, &mut picked, 32, 1, j);
+        let t = &all;
+        let x = &picked[..];
+        places(t, s, x, e, 32, 8, 10, j);
+        places(t, s, x, e, 32, 10, 12, j);
+        places(t, s, x, e, 32, 12, 14, j);
+        places(t, s, x, e, 32, 14, 16, j);
     }
 }
 
@@ -42,14 +46,16 @@ fn rows32_16(s: &[i16; 1024], e: &mut [i32])
     requires { ⌜ All (now s) (now e) 32 16 ⌝ }
     ensures { λ _. ⌜ All (now (s .entry)) (now (e .exit)) 32 24 ⌝ }
 {
-    let t = table::table();
+    let all = table::table();
     for j in 0..16 {
-        let mut x = [0i32; 32];
-        pick(s, &mut x, 32, 1, j);
-        places(&t, s, &x, e, 32, 16, 18, j);
-        places(&t, s, &x, e, 32, 18, 20, j);
-        places(&t, s, &x, e, 32, 20, 22, j);
-        places(&t, s, &x, e, 32, 22, 24, j);
+        let mut picked = [0i32; 32];
+        pick(s, &mut picked, 32, 1, j);
+        let t = &all;
+        let x = &picked[..];
+        places(t, s, x, e, 32, 16, 18, j);
+        places(t, s, x, e, 32, 18, 20, j);
+        places(t, s, x, e, 32, 20, 22, j);
+        places(t, s, x, e, 32, 22, 24, j);
     }
 }
 
@@ -58,14 +64,16 @@ fn rows32_24(s: &[i16; 1024], e: &mut [i32])
     requires { ⌜ All (now s) (now e) 32 24 ⌝ }
     ensures { λ _. ⌜ All (now (s .entry)) (now (e .exit)) 32 32 ⌝ }
 {
-    let t = table::table();
+    let all = table::table();
     for j in 0..16 {
-        let mut x = [0i32; 32];
-        pick(s, &mut x, 32, 1, j);
-        places(&t, s, &x, e, 32, 24, 26, j);
-        places(&t, s, &x, e, 32, 26, 28, j);
-        places(&t, s, &x, e, 32, 28, 30, j);
-        places(&t, s, &x, e, 32, 30, 32, j);
+        let mut picked = [0i32; 32];
+        pick(s, &mut picked, 32, 1, j);
+        let t = &all;
+        let x = &picked[..];
+        places(t, s, x, e, 32, 24, 26, j);
+        places(t, s, x, e, 32, 26, 28, j);
+        places(t, s, x, e, 32, 28, 30, j);
+        places(t, s, x, e, 32, 30, 32, j);
     }
 }
 

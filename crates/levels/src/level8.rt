@@ -10,11 +10,13 @@ fn rows8_0(s: &[i16; 1024], e: &mut [i32])
     requires { ⌜ All (now s) (now e) 8 0 ⌝ }
     ensures { λ _. ⌜ All (now (s .entry)) (now (e .exit)) 8 8 ⌝ }
 {
-    let t = table::table();
+    let all = table::table();
     for j in 0..16 {
-        let mut x = [0i32; 8];
-        pick(s, &mut x, 8, 4, j);
-        places(&t, s, &x, e, 8, 0, 8, j);
+        let mut picked = [0i32; 8];
+        pick(s, &mut picked, 8, 4, j);
+        let t = &all;
+        let x = &picked[..];
+        places(t, s, x, e, 8, 0, 8, j);
     }
 }
 

@@ -27,29 +27,20 @@ slice-aggregate-pick c = refl
 pick-requires : tie.Need-pick-requires Inv-loop μ-loop
 pick-requires c κs = (refl, record { some = lit< tt; rows = lit≤ tt; column = lit< tt; among = c .before .loop-test .taken })
 
-slice-aggregate-places : tie.Need-slice-aggregate-places Inv-loop μ-loop
-slice-aggregate-places c = sym (c .before .before .before .pick .ensures .long)
+slice-aggregate-x : tie.Need-slice-aggregate-x Inv-loop μ-loop
+slice-aggregate-x c = sym (c .before .before .before .pick .ensures .long)
 
 places-requires : tie.Need-places-requires Inv-loop μ-loop
 places-requires c κs = (record { table = c .before .before .before .before .before .before .before .before .table .ensures; lane = next-lane (c .before .before .before .before .before .before .before .before .before .pre .level) (c .before .before .before .before .before .before .before .loop .inv) (c .before .before .before .before .before .before .loop-test .taken); picks = c .before .before .before .before .pick .ensures }, (lit≤ tt, lit≤ tt))
 
-slice-aggregate-places-2 : tie.Need-slice-aggregate-places-2 Inv-loop μ-loop
-slice-aggregate-places-2 c = sym (c .before .before .before .before .before .before .before .before .pick .ensures .long)
-
 places-requires-2 : tie.Need-places-requires-2 Inv-loop μ-loop
-places-requires-2 c κs = (record { table = c .before .before .before .before .before .before .before .before .before .before .before .before .before .table .ensures; lane = c .before .before .before .before .places .ensures .lane; picks = c .before .before .before .before .before .before .before .before .before .pick .ensures }, (lit≤ tt, lit≤ tt))
-
-slice-aggregate-places-3 : tie.Need-slice-aggregate-places-3 Inv-loop μ-loop
-slice-aggregate-places-3 c = sym (c .before .before .before .before .before .before .before .before .before .before .before .before .before .pick .ensures .long)
+places-requires-2 c κs = (record { table = c .before .before .before .before .before .before .before .before .before .before .before .table .ensures; lane = c .before .before .places .ensures .lane; picks = c .before .before .before .before .before .before .before .pick .ensures }, (lit≤ tt, lit≤ tt))
 
 places-requires-3 : tie.Need-places-requires-3 Inv-loop μ-loop
-places-requires-3 c κs = (record { table = c .before .before .before .before .before .before .before .before .before .before .before .before .before .before .before .before .before .before .table .ensures; lane = c .before .before .before .before .places2 .ensures .lane; picks = c .before .before .before .before .before .before .before .before .before .before .before .before .before .before .pick .ensures }, (lit≤ tt, lit≤ tt))
-
-slice-aggregate-places-4 : tie.Need-slice-aggregate-places-4 Inv-loop μ-loop
-slice-aggregate-places-4 c = sym (c .before .before .before .before .before .before .before .before .before .before .before .before .before .before .before .before .before .before .pick .ensures .long)
+places-requires-3 c κs = (record { table = c .before .before .before .before .before .before .before .before .before .before .before .before .before .before .table .ensures; lane = c .before .before .places2 .ensures .lane; picks = c .before .before .before .before .before .before .before .before .before .before .pick .ensures }, (lit≤ tt, lit≤ tt))
 
 places-requires-4 : tie.Need-places-requires-4 Inv-loop μ-loop
-places-requires-4 c κs = (record { table = c .before .before .before .before .before .before .before .before .before .before .before .before .before .before .before .before .before .before .before .before .before .before .before .table .ensures; lane = c .before .before .before .before .places3 .ensures .lane; picks = c .before .before .before .before .before .before .before .before .before .before .before .before .before .before .before .before .before .before .before .pick .ensures }, (lit≤ tt, lit≤ tt))
+places-requires-4 c κs = (record { table = c .before .before .before .before .before .before .before .before .before .before .before .before .before .before .before .before .before .table .ensures; lane = c .before .before .places3 .ensures .lane; picks = c .before .before .before .before .before .before .before .before .before .before .before .before .before .pick .ensures }, (lit≤ tt, lit≤ tt))
 
 add-j : tie.Need-add-j Inv-loop μ-loop
 add-j c = omega arith
@@ -58,7 +49,7 @@ loop-less : tie.Need-loop-less Inv-loop μ-loop
 loop-less c = omega arith
 
 loop-again : tie.Need-loop-again Inv-loop μ-loop
-loop-again c = passed-more (c .before .before .before .before .before .before .before .before .before .before .before .before .before .before .before .before .before .before .before .before .before .before .before .before .loop .inv) (c .before .before .before .before .before .before .before .before .before .before .before .before .before .before .before .before .before .before .before .before .before .before .before .loop-test .taken) (kept-then (c .before .before .before .before .before .before .before .before .before .before .before .before .before .before .before .before .places .ensures .kept) (kept-then (c .before .before .before .before .before .before .before .before .before .before .before .places2 .ensures .kept) (kept-then (c .before .before .before .before .before .before .places3 .ensures .kept) (c .before .places4 .ensures .kept)))) (c .before .places4 .ensures .lane .part)
+loop-again c = passed-more (c .before .before .before .before .before .before .before .before .before .before .before .before .before .before .before .before .before .before .loop .inv) (c .before .before .before .before .before .before .before .before .before .before .before .before .before .before .before .before .before .loop-test .taken) (kept-then (c .before .before .before .before .before .before .before .before .before .before .places .ensures .kept) (kept-then (c .before .before .before .before .before .before .before .places2 .ensures .kept) (kept-then (c .before .before .before .before .places3 .ensures .kept) (c .before .places4 .ensures .kept)))) (c .before .places4 .ensures .lane .part)
 
 same-length : tie.Need-same-length Inv-loop μ-loop
 same-length c = c .before .loop .inv .long
@@ -76,13 +67,10 @@ rows32-8-spec =
     loop-holds
     slice-aggregate-pick
     pick-requires
-    slice-aggregate-places
+    slice-aggregate-x
     places-requires
-    slice-aggregate-places-2
     places-requires-2
-    slice-aggregate-places-3
     places-requires-3
-    slice-aggregate-places-4
     places-requires-4
     add-j
     loop-less

@@ -26,8 +26,8 @@ slice-aggregate-pick c = refl
 pick-requires : tie.Need-pick-requires Inv-loop μ-loop
 pick-requires c κs = (refl, record { some = lit< tt; rows = lit≤ tt; column = lit< tt; among = c .before .loop-test .taken })
 
-slice-aggregate-places : tie.Need-slice-aggregate-places Inv-loop μ-loop
-slice-aggregate-places c = sym (c .before .before .before .pick .ensures .long)
+slice-aggregate-x : tie.Need-slice-aggregate-x Inv-loop μ-loop
+slice-aggregate-x c = sym (c .before .before .before .pick .ensures .long)
 
 places-requires : tie.Need-places-requires Inv-loop μ-loop
 places-requires c κs = (record { table = c .before .before .before .before .before .before .before .before .table .ensures; lane = next-lane (c .before .before .before .before .before .before .before .before .before .pre .level) (c .before .before .before .before .before .before .before .loop .inv) (c .before .before .before .before .before .before .loop-test .taken); picks = c .before .before .before .before .pick .ensures }, (lit≤ tt, lit≤ tt))
@@ -57,7 +57,7 @@ rows8-0-spec =
     loop-holds
     slice-aggregate-pick
     pick-requires
-    slice-aggregate-places
+    slice-aggregate-x
     places-requires
     add-j
     loop-less
