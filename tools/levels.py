@@ -15,11 +15,12 @@ FEW = {8: 8, 16: 4, 32: 2}
 
 
 def code(m):
-    q = 32 // m
     out = [
         f"// From size {m} to size {2 * m}, in all 16 lanes. Written by tools/levels.py.",
+        "ghost use mathlib.Core.Path.{_≡_};",
         "ghost use Prim.Native.Nat.{_≤_};",
         "ghost use lib.ListN.{length};",
+        "ghost use Rattle.table.specs.Flat.{flat};",
         "ghost use Rattle.levels.specs.Steps.{All, Sized};",
         "use super::lanes::pick;",
         "use super::lanes::places;",
@@ -28,24 +29,26 @@ def code(m):
     for g in range(0, m, 8):
         out += [
             f"// Places {g} to {g + 7} and their mirrors.",
-            f"fn rows{m}_{g}(s: &[i16; 1024], e: &mut [i32])",
-            f"    requires {{ ⌜ All (now s) (now e) {m} {g} ⌝ }}",
+            f"fn rows{m}_{g}(t: &[i8; 4096], s: &[i16; 1024], e: &mut [i32])",
+            f"    requires {{ ⌜ (now t ≡ flat) × All (now s) (now e) {m} {g} ⌝ }}",
             f"    ensures {{ λ _. ⌜ All (now (s .entry)) (now (e .exit)) {m} {g + 8} ⌝ }}",
             "{",
-            "    let t = table::table();",
             "    for j in 0..16 {",
-            f"        let mut x = [0i32; {m}];",
-            f"        pick(s, &mut x, {m}, {q}, j);",
+            f"        let mut picked = [0i32; {m}];",
+            f"        pick(s, &mut picked, {m}, {32 // m}, j);",
+            "        let x = &picked[..];",
         ]
-        out += [f"        places(&t, s, &x, e, {m}, {n}, {n + FEW[m]}, j);" for n in range(g, g + 8, FEW[m])]
+        out += [f"        places(t, s, x, e, {m}, {n}, {n + FEW[m]}, j);" for n in range(g, g + 8, FEW[m])]
         out += ["    }", "}", ""]
     out += [
         f"pub(crate) fn level{m}(s: &[i16; 1024], e: &mut [i32])",
         f"    requires {{ ⌜ Sized (now s) (now e) {m} × ({2 * m * 16} ≤ length (now e)) ⌝ }}",
         f"    ensures {{ λ _. ⌜ Sized (now (s .entry)) (now (e .exit)) {2 * m} ⌝ }}",
         "{",
+        "    let all = table::table();",
+        "    let t = &all;",
     ]
-    out += [f"    rows{m}_{g}(s, e);" for g in range(0, m, 8)]
+    out += [f"    rows{m}_{g}(t, s, e);" for g in range(0, m, 8)]
     out += ["}", ""]
     return "\n".join(out)
 
@@ -78,10 +81,9 @@ def called(name, k):
 
 
 def rows(m, g):
-    """The loop over the lanes. It binds the table, the loop, its test; the array, the loan of it, `pick`, and the loan's end; then, of each call,
-    the loans of table, inputs and e, the call, and the loan's end."""
-    q, few = 32 // m, FEW[m]
-    calls = 8 // few
+    """The loop over the lanes. It binds the loop, its test; the loan of the array, `pick`, and the loan's end; the loan of the inputs, which all calls
+    share; then, of each call, the loan of e, the call, and the loan's end."""
+    calls = 8 // FEW[m]
     uses = [
         "use mathlib.Core.Path.{refl, sym}",
         "use Prim.Native.Nat.{_-_}",
@@ -92,28 +94,27 @@ def rows(m, g):
     ]
     body = [
         "abbrev Inv-loop : tie.InvT-loop",
-        f"Inv-loop s e₀ t j₀ e j = Passed (Places s {m} {g}) (Places s {m} {g + 8}) e₀ e j",
+        f"Inv-loop t s e₀ j₀ e j = Passed (Places s {m} {g}) (Places s {m} {g + 8}) e₀ e j",
         "",
         "abbrev μ-loop : tie.MeasureT-loop",
-        "μ-loop s e₀ t j₀ e j = 16 - j",
+        "μ-loop t s e₀ j₀ e j = 16 - j",
         "",
     ]
     needs = [
-        ("table-requires", " κs", "tt"),
-        ("loop-holds", "", "passed-none (c .before .pre .part)"),
+        ("loop-holds", "", "passed-none (c .pre .1 .part)"),
         ("slice-aggregate-pick", "", "refl"),
         ("pick-requires", " κs", "(refl, record { some = lit< tt; rows = lit≤ tt; column = lit< tt; among = c .before .loop-test .taken })"),
+        ("slice-aggregate-x", "", f"sym (c{back(2)} .pick .ensures .long)"),
     ]
-    # from the i-th call's loans back to the loop's test, and to `pick`
-    test = lambda i: 6 + 5 * i
-    picked = lambda i: 4 + 5 * i
+    # from the i-th call's loan back to the loop's test, and to `pick`
+    test = lambda i: 5 + 3 * i
+    picked = lambda i: 3 + 3 * i
     for i in range(calls):
         k = test(i)
-        lane = f"c{back(4)} .{called('places', i)} .ensures .lane" if i else f"next-lane (c{back(k + 3)} .pre .level) (c{back(k + 1)} .loop .inv) (c{back(k)} .loop-test .taken)"
-        needs.append((nth("slice-aggregate-places", i + 1), "", f"sym (c{back(picked(i) - 1)} .pick .ensures .long)"))
-        given = f"record {{ table = c{back(k + 2)} .table .ensures; lane = {lane}; picks = c{back(picked(i))} .pick .ensures }}"
+        lane = f"c{back(2)} .{called('places', i)} .ensures .lane" if i else f"next-lane (c{back(k + 2)} .pre .1 .level) (c{back(k + 1)} .loop .inv) (c{back(k)} .loop-test .taken)"
+        given = f"record {{ table = c{back(k + 2)} .pre .0; lane = {lane}; picks = c{back(picked(i))} .pick .ensures }}"
         needs.append((nth("places-requires", i + 1), " κs", f"({given}, (lit≤ tt, lit≤ tt))"))
-    put = lambda i: f"c{back(5 * (calls - 1 - i) + 1)} .{called('places', i + 1)} .ensures"
+    put = lambda i: f"c{back(3 * (calls - 1 - i) + 1)} .{called('places', i + 1)} .ensures"
     kept = f"{put(calls - 1)} .kept"
     for i in reversed(range(calls - 1)):
         kept = f"kept-then ({put(i)} .kept) ({kept})"
@@ -123,31 +124,27 @@ def rows(m, g):
         ("loop-less", "", "omega arith"),
         ("loop-again", "", f"passed-more (c{back(end + 1)} .loop .inv) (c{back(end)} .loop-test .taken) ({kept}) ({put(calls - 1)} .lane .part)"),
         ("same-length", "", "c .before .loop .inv .long"),
-        ("returns", "", f"passed-all (c{back(3)} .pre .level) (c .before .loop .inv) (c .loop-test .left)"),
+        ("returns", "", f"passed-all (c{back(2)} .pre .1 .level) (c .before .loop .inv) (c .loop-test .left)"),
     ]
     return proof(f"level{m}", f"rows{m}_{g}", "lane after lane.", [use for use in uses if use], body, needs, " Inv-loop μ-loop")
 
 
 def level(m):
-    """The passes of a level. Each binds the loan of e, the call, and the loan's end."""
+    """The passes of a level. It binds the table and the loan of it; then, of each pass, the loan of e, the call, and the loan's end."""
     uses = [
         "use mathlib.Core.Path.{refl, _∙_}",
         "use lib.Dec.{lit≤}",
         "use Rattle.halving.proofs.Step.{none, all}",
     ]
     calls = [f"rows{m}-{g}" for g in range(0, m, 8)]
-    needs = [
-        (
-            f"{calls[0]}-requires",
-            " κs",
-            "let s = c .before in record { level = record { narrow = s .pre .0 .narrow; whole = refl; size = lit≤ tt; room = s .pre .1 }; part = λ j h. none (s .pre .0 .sums j h) }",
-        )
-    ]
-    needs += [(f"{calls[i]}-requires", " κs", f"c .before .before .{calls[i - 1]} .ensures") for i in range(1, len(calls))]
-    kept = f"c .before .{calls[-1]} .kept .1 .0"
-    for i in reversed(range(len(calls) - 1)):
-        kept += f" ∙ c{back(3 * (len(calls) - 1 - i) + 1)} .{calls[i]} .kept .1 .0"
-    needs.append(("same-length", "", kept))
+    needs = [("table-requires", " κs", "tt")]
+    for i, call in enumerate(calls):
+        table = f"c{back(2 + 3 * i)} .table .ensures"
+        part = f"c .before .before .{calls[i - 1]} .ensures" if i else "record { level = record { narrow = s .pre .0 .narrow; whole = refl; size = lit≤ tt; room = s .pre .1 }; part = λ j h. none (s .pre .0 .sums j h) }"
+        needs.append((f"{call}-requires", " κs", ("" if i else f"let s = c{back(3)} in ") + f"({table}, {part})"))
+    # the length of e, the third of what a pass is given
+    long = lambda i: f"c{back(3 * (len(calls) - 1 - i) + 1)} .{calls[i]} .kept .1 .1 .0"
+    needs.append(("same-length", "", " ∙ ".join(long(i) for i in reversed(range(len(calls))))))
     last = f"c .before .{calls[-1]} .ensures"
     needs.append(("returns", "", f"record {{ narrow = {last} .level .narrow; sums = λ j h. all ({last} .part j h) }}"))
     return proof(f"level{m}", f"level{m}", "eight places after eight.", uses, [], needs)

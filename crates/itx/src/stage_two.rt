@@ -61,8 +61,9 @@ pub fn itxb1(src: &[i32], dst: &mut [i16], log2_size: usize, log2_line: usize, s
     ensures exit { λ r. ⌜ now (dst .exit) ≡ doneTwo r «log2_size» «log2_line» shift (now (src .entry)) (now (dst .entry)) ⌝ }
 {
     if halving::mine(4, 6, 0, src.len(), dst.len(), log2_size, log2_line, shift) {
-        let l = 1usize << log2_line;
+        // in this order a compiler has one value less to save around the sums of each line
         let add = halving::rounding(shift);
+        let l = 1usize << log2_line;
         match log2_size {
             4 => itx_pb16b1(src, dst, l, add, shift),
             5 => itx_pb32b1(src, dst, l, add, shift),

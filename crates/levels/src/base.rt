@@ -30,14 +30,15 @@ pub(crate) fn base(s: &[i16; 1024], e: &mut [i32])
     requires { ⌜ Narrow (now s) × (256 ≤ length (now e)) ⌝ }
     ensures { λ _. ⌜ Sized (now (s .entry)) (now (e .exit)) 8 ⌝ }
 {
-    let t = table::table();
+    let all = table::table();
     for j in 0..16 {
-        lane2(&t, s, e, j);
+        let t = &all;
+        lane2(t, s, e, j);
         let mut x = [0i32; 2];
         pick(s, &mut x, 2, 16, j);
-        places(&t, s, &x, e, 2, 0, 2, j);
+        places(t, s, &x, e, 2, 0, 2, j);
         let mut y = [0i32; 4];
         pick(s, &mut y, 4, 8, j);
-        places(&t, s, &y, e, 4, 0, 4, j);
+        places(t, s, &y, e, 4, 0, 4, j);
     }
 }

@@ -1,35 +1,37 @@
 // From size 16 to size 32, in all 16 lanes. Written by tools/levels.py.
+ghost use mathlib.Core.Path.{_≡_};
 ghost use Prim.Native.Nat.{_≤_};
 ghost use lib.ListN.{length};
+ghost use Rattle.table.specs.Flat.{flat};
 ghost use Rattle.levels.specs.Steps.{All, Sized};
 use super::lanes::pick;
 use super::lanes::places;
 
 // Places 0 to 7 and their mirrors.
-fn rows16_0(s: &[i16; 1024], e: &mut [i32])
-    requires { ⌜ All (now s) (now e) 16 0 ⌝ }
+fn rows16_0(t: &[i8; 4096], s: &[i16; 1024], e: &mut [i32])
+    requires { ⌜ (now t ≡ flat) × All (now s) (now e) 16 0 ⌝ }
     ensures { λ _. ⌜ All (now (s .entry)) (now (e .exit)) 16 8 ⌝ }
 {
-    let t = table::table();
     for j in 0..16 {
-        let mut x = [0i32; 16];
-        pick(s, &mut x, 16, 2, j);
-        places(&t, s, &x, e, 16, 0, 4, j);
-        places(&t, s, &x, e, 16, 4, 8, j);
+        let mut picked = [0i32; 16];
+        pick(s, &mut picked, 16, 2, j);
+        let x = &picked[..];
+        places(t, s, x, e, 16, 0, 4, j);
+        places(t, s, x, e, 16, 4, 8, j);
     }
 }
 
 // Places 8 to 15 and their mirrors.
-fn rows16_8(s: &[i16; 1024], e: &mut [i32])
-    requires { ⌜ All (now s) (now e) 16 8 ⌝ }
+fn rows16_8(t: &[i8; 4096], s: &[i16; 1024], e: &mut [i32])
+    requires { ⌜ (now t ≡ flat) × All (now s) (now e) 16 8 ⌝ }
     ensures { λ _. ⌜ All (now (s .entry)) (now (e .exit)) 16 16 ⌝ }
 {
-    let t = table::table();
     for j in 0..16 {
-        let mut x = [0i32; 16];
-        pick(s, &mut x, 16, 2, j);
-        places(&t, s, &x, e, 16, 8, 12, j);
-        places(&t, s, &x, e, 16, 12, 16, j);
+        let mut picked = [0i32; 16];
+        pick(s, &mut picked, 16, 2, j);
+        let x = &picked[..];
+        places(t, s, x, e, 16, 8, 12, j);
+        places(t, s, x, e, 16, 12, 16, j);
     }
 }
 
@@ -37,6 +39,8 @@ pub(crate) fn level16(s: &[i16; 1024], e: &mut [i32])
     requires { ⌜ Sized (now s) (now e) 16 × (512 ≤ length (now e)) ⌝ }
     ensures { λ _. ⌜ Sized (now (s .entry)) (now (e .exit)) 32 ⌝ }
 {
-    rows16_0(s, e);
-    rows16_8(s, e);
+    let all = table::table();
+    let t = &all;
+    rows16_0(t, s, e);
+    rows16_8(t, s, e);
 }

@@ -54,11 +54,11 @@ sum c =
 mine-requires : tie.Need-mine-requires
 mine-requires c κs = search needs
 
-shl-l : tie.Need-shl-l
-shl-l c = omega (arith, known c .line-most)
-
 rounding-requires : tie.Need-rounding-requires
 rounding-requires c κs = search needs
+
+shl-l : tie.Need-shl-l
+shl-l c = omega (arith, known (c .before) .line-most)
 
 itx-pb16b1-requires : tie.Need-itx-pb16b1-requires
 itx-pb16b1-requires c κs = let d = c .before .before in (sum d, room (d .before) 4 (c .before .match .keys1))
@@ -97,8 +97,8 @@ itxb1-spec =
     tie.close
     (tie.spec
     mine-requires
-    shl-l
     rounding-requires
+    shl-l
     itx-pb16b1-requires
     itx-pb32b1-requires
     itx-pb64b1-requires

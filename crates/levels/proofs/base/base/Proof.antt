@@ -39,12 +39,12 @@ pick-requires : tie.Need-pick-requires Inv-loop μ-loop
 pick-requires c κs = (refl, record { some = lit< tt; rows = lit≤ tt; column = lit< tt; among = c .before .before .lane2 .ensures .lane .among })
 
 slice-aggregate-places : tie.Need-slice-aggregate-places Inv-loop μ-loop
-slice-aggregate-places c = sym (c .before .before .before .pick .ensures .long)
+slice-aggregate-places c = sym (c .before .before .pick .ensures .long)
 
 places-requires : tie.Need-places-requires Inv-loop μ-loop
 places-requires c κs =
-    let two = c .before .before .before .before .before .before .before .lane2 .ensures in (
-      record { table = c .before .before .before .before .before .before .before .before .before .before .before .before .table .ensures; lane = two .lane; picks = c .before .before .before .before .pick .ensures },
+    let two = c .before .before .before .before .before .before .lane2 .ensures in (
+      record { table = c .before .before .before .before .before .before .before .before .before .before .before .table .ensures; lane = two .lane; picks = c .before .before .before .pick .ensures },
       (lit≤ tt, lit≤ tt),
     )
 
@@ -55,23 +55,23 @@ pick-requires-2 : tie.Need-pick-requires-2 Inv-loop μ-loop
 pick-requires-2 c κs = (refl, record { some = lit< tt; rows = lit≤ tt; column = lit< tt; among = c .before .before .places .ensures .lane .among })
 
 slice-aggregate-places-2 : tie.Need-slice-aggregate-places-2 Inv-loop μ-loop
-slice-aggregate-places-2 c = sym (c .before .before .before .pick2 .ensures .long)
+slice-aggregate-places-2 c = sym (c .before .before .pick2 .ensures .long)
 
 places-requires-2 : tie.Need-places-requires-2 Inv-loop μ-loop
 places-requires-2 c κs =
-    let s = c .before .before .before .before .before .before .before .before .before .before .before .before .before .before .before .before .before .before .before .before .before in
-    let l = c .before .before .before .before .before .before .before .before .before .before .before .before .before .before .before .before .before .before .before .loop .inv .long in
-    let two = c .before .before .before .before .before .before .before .before .before .before .before .before .before .before .before .lane2 .ensures in
-    let four = c .before .before .before .before .before .before .before .places .ensures in (
+    let s = c .before .before .before .before .before .before .before .before .before .before .before .before .before .before .before .before .before .before .before in
+    let l = c .before .before .before .before .before .before .before .before .before .before .before .before .before .before .before .before .before .loop .inv .long in
+    let two = c .before .before .before .before .before .before .before .before .before .before .before .before .before .lane2 .ensures in
+    let four = c .before .before .before .before .before .before .places .ensures in (
       record {
-        table = c .before .before .before .before .before .before .before .before .before .before .before .before .before .before .before .before .before .before .before .before .table .ensures;
+        table = c .before .before .before .before .before .before .before .before .before .before .before .before .before .before .before .before .before .before .table .ensures;
         lane =
             record {
               level = record { narrow = s .pre .0; whole = refl; size = lit≤ tt; room = omega (arith, l, s .pre .1, two .kept .long, four .kept .long) };
               among = four .lane .among;
               part = none (all (four .lane .part));
             };
-        picks = c .before .before .before .before .pick2 .ensures;
+        picks = c .before .before .before .pick2 .ensures;
       },
       (lit≤ tt, lit≤ tt),
     )
@@ -84,10 +84,10 @@ loop-less c = omega arith
 
 loop-again : tie.Need-loop-again Inv-loop μ-loop
 loop-again c =
-    let two = c .before .before .before .before .before .before .before .before .before .before .before .before .before .before .before .before .before .lane2 .ensures in
-    let four = c .before .before .before .before .before .before .before .before .before .places .ensures in
+    let two = c .before .before .before .before .before .before .before .before .before .before .before .before .before .before .before .lane2 .ensures in
+    let four = c .before .before .before .before .before .before .before .before .places .ensures in
     let eight = c .before .places2 .ensures in
-    passed-more (c .before .before .before .before .before .before .before .before .before .before .before .before .before .before .before .before .before .before .before .before .before .loop .inv) (eight .lane .among) (kept-then (two .kept) (kept-then (four .kept) (eight .kept))) (eight .lane .part)
+    passed-more (c .before .before .before .before .before .before .before .before .before .before .before .before .before .before .before .before .before .before .before .loop .inv) (eight .lane .among) (kept-then (two .kept) (kept-then (four .kept) (eight .kept))) (eight .lane .part)
 
 same-length : tie.Need-same-length Inv-loop μ-loop
 same-length c = c .before .loop .inv .long

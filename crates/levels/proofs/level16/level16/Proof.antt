@@ -6,14 +6,17 @@ use Rattle.halving.proofs.Step.{none, all}
 use Rattle.levels.proofs.level16.level16.Statement.{statement}
 use Rattle.levels.proofs.level16.level16.Tie as tie
 
+table-requires : tie.Need-table-requires
+table-requires c κs = tt
+
 rows16-0-requires : tie.Need-rows16-0-requires
-rows16-0-requires c κs = let s = c .before in record { level = record { narrow = s .pre .0 .narrow; whole = refl; size = lit≤ tt; room = s .pre .1 }; part = λ j h. none (s .pre .0 .sums j h) }
+rows16-0-requires c κs = let s = c .before .before .before in (c .before .before .table .ensures, record { level = record { narrow = s .pre .0 .narrow; whole = refl; size = lit≤ tt; room = s .pre .1 }; part = λ j h. none (s .pre .0 .sums j h) })
 
 rows16-8-requires : tie.Need-rows16-8-requires
-rows16-8-requires c κs = c .before .before .rows16-0 .ensures
+rows16-8-requires c κs = (c .before .before .before .before .before .table .ensures, c .before .before .rows16-0 .ensures)
 
 same-length : tie.Need-same-length
-same-length c = c .before .rows16-8 .kept .1 .0 ∙ c .before .before .before .before .rows16-0 .kept .1 .0
+same-length c = c .before .rows16-8 .kept .1 .1 .0 ∙ c .before .before .before .before .rows16-0 .kept .1 .1 .0
 
 returns : tie.Need-returns
 returns c = record { narrow = c .before .rows16-8 .ensures .level .narrow; sums = λ j h. all (c .before .rows16-8 .ensures .part j h) }
@@ -22,6 +25,7 @@ pub level16-spec : {M : Type 1} → statement M
 level16-spec =
     tie.close
     (tie.spec
+    table-requires
     rows16-0-requires
     rows16-8-requires
     same-length

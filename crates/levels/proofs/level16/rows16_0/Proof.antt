@@ -10,16 +10,13 @@ use Rattle.levels.proofs.level16.rows16_0.Statement.{statement}
 use Rattle.levels.proofs.level16.rows16_0.Tie as tie
 
 abbrev Inv-loop : tie.InvT-loop
-Inv-loop s e₀ t j₀ e j = Passed (Places s 16 0) (Places s 16 8) e₀ e j
+Inv-loop t s e₀ j₀ e j = Passed (Places s 16 0) (Places s 16 8) e₀ e j
 
 abbrev μ-loop : tie.MeasureT-loop
-μ-loop s e₀ t j₀ e j = 16 - j
-
-table-requires : tie.Need-table-requires Inv-loop μ-loop
-table-requires c κs = tt
+μ-loop t s e₀ j₀ e j = 16 - j
 
 loop-holds : tie.Need-loop-holds Inv-loop μ-loop
-loop-holds c = passed-none (c .before .pre .part)
+loop-holds c = passed-none (c .pre .1 .part)
 
 slice-aggregate-pick : tie.Need-slice-aggregate-pick Inv-loop μ-loop
 slice-aggregate-pick c = refl
@@ -27,17 +24,14 @@ slice-aggregate-pick c = refl
 pick-requires : tie.Need-pick-requires Inv-loop μ-loop
 pick-requires c κs = (refl, record { some = lit< tt; rows = lit≤ tt; column = lit< tt; among = c .before .loop-test .taken })
 
-slice-aggregate-places : tie.Need-slice-aggregate-places Inv-loop μ-loop
-slice-aggregate-places c = sym (c .before .before .before .pick .ensures .long)
+slice-aggregate-x : tie.Need-slice-aggregate-x Inv-loop μ-loop
+slice-aggregate-x c = sym (c .before .before .pick .ensures .long)
 
 places-requires : tie.Need-places-requires Inv-loop μ-loop
-places-requires c κs = (record { table = c .before .before .before .before .before .before .before .before .table .ensures; lane = next-lane (c .before .before .before .before .before .before .before .before .before .pre .level) (c .before .before .before .before .before .before .before .loop .inv) (c .before .before .before .before .before .before .loop-test .taken); picks = c .before .before .before .before .pick .ensures }, (lit≤ tt, lit≤ tt))
-
-slice-aggregate-places-2 : tie.Need-slice-aggregate-places-2 Inv-loop μ-loop
-slice-aggregate-places-2 c = sym (c .before .before .before .before .before .before .before .before .pick .ensures .long)
+places-requires c κs = (record { table = c .before .before .before .before .before .before .before .pre .0; lane = next-lane (c .before .before .before .before .before .before .before .pre .1 .level) (c .before .before .before .before .before .before .loop .inv) (c .before .before .before .before .before .loop-test .taken); picks = c .before .before .before .pick .ensures }, (lit≤ tt, lit≤ tt))
 
 places-requires-2 : tie.Need-places-requires-2 Inv-loop μ-loop
-places-requires-2 c κs = (record { table = c .before .before .before .before .before .before .before .before .before .before .before .before .before .table .ensures; lane = c .before .before .before .before .places .ensures .lane; picks = c .before .before .before .before .before .before .before .before .before .pick .ensures }, (lit≤ tt, lit≤ tt))
+places-requires-2 c κs = (record { table = c .before .before .before .before .before .before .before .before .before .before .pre .0; lane = c .before .before .places .ensures .lane; picks = c .before .before .before .before .before .before .pick .ensures }, (lit≤ tt, lit≤ tt))
 
 add-j : tie.Need-add-j Inv-loop μ-loop
 add-j c = omega arith
@@ -46,13 +40,13 @@ loop-less : tie.Need-loop-less Inv-loop μ-loop
 loop-less c = omega arith
 
 loop-again : tie.Need-loop-again Inv-loop μ-loop
-loop-again c = passed-more (c .before .before .before .before .before .before .before .before .before .before .before .before .before .before .loop .inv) (c .before .before .before .before .before .before .before .before .before .before .before .before .before .loop-test .taken) (kept-then (c .before .before .before .before .before .before .places .ensures .kept) (c .before .places2 .ensures .kept)) (c .before .places2 .ensures .lane .part)
+loop-again c = passed-more (c .before .before .before .before .before .before .before .before .before .before .before .loop .inv) (c .before .before .before .before .before .before .before .before .before .before .loop-test .taken) (kept-then (c .before .before .before .before .places .ensures .kept) (c .before .places2 .ensures .kept)) (c .before .places2 .ensures .lane .part)
 
 same-length : tie.Need-same-length Inv-loop μ-loop
 same-length c = c .before .loop .inv .long
 
 returns : tie.Need-returns Inv-loop μ-loop
-returns c = passed-all (c .before .before .before .pre .level) (c .before .loop .inv) (c .loop-test .left)
+returns c = passed-all (c .before .before .pre .1 .level) (c .before .loop .inv) (c .loop-test .left)
 
 pub rows16-0-spec : {M : Type 1} → statement M
 rows16-0-spec =
@@ -60,13 +54,11 @@ rows16-0-spec =
     (tie.spec
     Inv-loop
     μ-loop
-    table-requires
     loop-holds
     slice-aggregate-pick
     pick-requires
-    slice-aggregate-places
+    slice-aggregate-x
     places-requires
-    slice-aggregate-places-2
     places-requires-2
     add-j
     loop-less

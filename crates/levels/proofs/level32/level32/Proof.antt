@@ -6,20 +6,23 @@ use Rattle.halving.proofs.Step.{none, all}
 use Rattle.levels.proofs.level32.level32.Statement.{statement}
 use Rattle.levels.proofs.level32.level32.Tie as tie
 
+table-requires : tie.Need-table-requires
+table-requires c κs = tt
+
 rows32-0-requires : tie.Need-rows32-0-requires
-rows32-0-requires c κs = let s = c .before in record { level = record { narrow = s .pre .0 .narrow; whole = refl; size = lit≤ tt; room = s .pre .1 }; part = λ j h. none (s .pre .0 .sums j h) }
+rows32-0-requires c κs = let s = c .before .before .before in (c .before .before .table .ensures, record { level = record { narrow = s .pre .0 .narrow; whole = refl; size = lit≤ tt; room = s .pre .1 }; part = λ j h. none (s .pre .0 .sums j h) })
 
 rows32-8-requires : tie.Need-rows32-8-requires
-rows32-8-requires c κs = c .before .before .rows32-0 .ensures
+rows32-8-requires c κs = (c .before .before .before .before .before .table .ensures, c .before .before .rows32-0 .ensures)
 
 rows32-16-requires : tie.Need-rows32-16-requires
-rows32-16-requires c κs = c .before .before .rows32-8 .ensures
+rows32-16-requires c κs = (c .before .before .before .before .before .before .before .before .table .ensures, c .before .before .rows32-8 .ensures)
 
 rows32-24-requires : tie.Need-rows32-24-requires
-rows32-24-requires c κs = c .before .before .rows32-16 .ensures
+rows32-24-requires c κs = (c .before .before .before .before .before .before .before .before .before .before .before .table .ensures, c .before .before .rows32-16 .ensures)
 
 same-length : tie.Need-same-length
-same-length c = c .before .rows32-24 .kept .1 .0 ∙ c .before .before .before .before .rows32-16 .kept .1 .0 ∙ c .before .before .before .before .before .before .before .rows32-8 .kept .1 .0 ∙ c .before .before .before .before .before .before .before .before .before .before .rows32-0 .kept .1 .0
+same-length c = c .before .rows32-24 .kept .1 .1 .0 ∙ c .before .before .before .before .rows32-16 .kept .1 .1 .0 ∙ c .before .before .before .before .before .before .before .rows32-8 .kept .1 .1 .0 ∙ c .before .before .before .before .before .before .before .before .before .before .rows32-0 .kept .1 .1 .0
 
 returns : tie.Need-returns
 returns c = record { narrow = c .before .rows32-24 .ensures .level .narrow; sums = λ j h. all (c .before .rows32-24 .ensures .part j h) }
@@ -28,6 +31,7 @@ pub level32-spec : {M : Type 1} → statement M
 level32-spec =
     tie.close
     (tie.spec
+    table-requires
     rows32-0-requires
     rows32-8-requires
     rows32-16-requires

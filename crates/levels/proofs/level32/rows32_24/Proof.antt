@@ -10,16 +10,13 @@ use Rattle.levels.proofs.level32.rows32_24.Statement.{statement}
 use Rattle.levels.proofs.level32.rows32_24.Tie as tie
 
 abbrev Inv-loop : tie.InvT-loop
-Inv-loop s e₀ t j₀ e j = Passed (Places s 32 24) (Places s 32 32) e₀ e j
+Inv-loop t s e₀ j₀ e j = Passed (Places s 32 24) (Places s 32 32) e₀ e j
 
 abbrev μ-loop : tie.MeasureT-loop
-μ-loop s e₀ t j₀ e j = 16 - j
-
-table-requires : tie.Need-table-requires Inv-loop μ-loop
-table-requires c κs = tt
+μ-loop t s e₀ j₀ e j = 16 - j
 
 loop-holds : tie.Need-loop-holds Inv-loop μ-loop
-loop-holds c = passed-none (c .before .pre .part)
+loop-holds c = passed-none (c .pre .1 .part)
 
 slice-aggregate-pick : tie.Need-slice-aggregate-pick Inv-loop μ-loop
 slice-aggregate-pick c = refl
@@ -27,29 +24,20 @@ slice-aggregate-pick c = refl
 pick-requires : tie.Need-pick-requires Inv-loop μ-loop
 pick-requires c κs = (refl, record { some = lit< tt; rows = lit≤ tt; column = lit< tt; among = c .before .loop-test .taken })
 
-slice-aggregate-places : tie.Need-slice-aggregate-places Inv-loop μ-loop
-slice-aggregate-places c = sym (c .before .before .before .pick .ensures .long)
+slice-aggregate-x : tie.Need-slice-aggregate-x Inv-loop μ-loop
+slice-aggregate-x c = sym (c .before .before .pick .ensures .long)
 
 places-requires : tie.Need-places-requires Inv-loop μ-loop
-places-requires c κs = (record { table = c .before .before .before .before .before .before .before .before .table .ensures; lane = next-lane (c .before .before .before .before .before .before .before .before .before .pre .level) (c .before .before .before .before .before .before .before .loop .inv) (c .before .before .before .before .before .before .loop-test .taken); picks = c .before .before .before .before .pick .ensures }, (lit≤ tt, lit≤ tt))
-
-slice-aggregate-places-2 : tie.Need-slice-aggregate-places-2 Inv-loop μ-loop
-slice-aggregate-places-2 c = sym (c .before .before .before .before .before .before .before .before .pick .ensures .long)
+places-requires c κs = (record { table = c .before .before .before .before .before .before .before .pre .0; lane = next-lane (c .before .before .before .before .before .before .before .pre .1 .level) (c .before .before .before .before .before .before .loop .inv) (c .before .before .before .before .before .loop-test .taken); picks = c .before .before .before .pick .ensures }, (lit≤ tt, lit≤ tt))
 
 places-requires-2 : tie.Need-places-requires-2 Inv-loop μ-loop
-places-requires-2 c κs = (record { table = c .before .before .before .before .before .before .before .before .before .before .before .before .before .table .ensures; lane = c .before .before .before .before .places .ensures .lane; picks = c .before .before .before .before .before .before .before .before .before .pick .ensures }, (lit≤ tt, lit≤ tt))
-
-slice-aggregate-places-3 : tie.Need-slice-aggregate-places-3 Inv-loop μ-loop
-slice-aggregate-places-3 c = sym (c .before .before .before .before .before .before .before .before .before .before .before .before .before .pick .ensures .long)
+places-requires-2 c κs = (record { table = c .before .before .before .before .before .before .before .before .before .before .pre .0; lane = c .before .before .places .ensures .lane; picks = c .before .before .before .before .before .before .pick .ensures }, (lit≤ tt, lit≤ tt))
 
 places-requires-3 : tie.Need-places-requires-3 Inv-loop μ-loop
-places-requires-3 c κs = (record { table = c .before .before .before .before .before .before .before .before .before .before .before .before .before .before .before .before .before .before .table .ensures; lane = c .before .before .before .before .places2 .ensures .lane; picks = c .before .before .before .before .before .before .before .before .before .before .before .before .before .before .pick .ensures }, (lit≤ tt, lit≤ tt))
-
-slice-aggregate-places-4 : tie.Need-slice-aggregate-places-4 Inv-loop μ-loop
-slice-aggregate-places-4 c = sym (c .before .before .before .before .before .before .before .before .before .before .before .before .before .before .before .before .before .before .pick .ensures .long)
+places-requires-3 c κs = (record { table = c .before .before .before .before .before .before .before .before .before .before .before .before .before .pre .0; lane = c .before .before .places2 .ensures .lane; picks = c .before .before .before .before .before .before .before .before .before .pick .ensures }, (lit≤ tt, lit≤ tt))
 
 places-requires-4 : tie.Need-places-requires-4 Inv-loop μ-loop
-places-requires-4 c κs = (record { table = c .before .before .before .before .before .before .before .before .before .before .before .before .before .before .before .before .before .before .before .before .before .before .before .table .ensures; lane = c .before .before .before .before .places3 .ensures .lane; picks = c .before .before .before .before .before .before .before .before .before .before .before .before .before .before .before .before .before .before .before .pick .ensures }, (lit≤ tt, lit≤ tt))
+places-requires-4 c κs = (record { table = c .before .before .before .before .before .before .before .before .before .before .before .before .before .before .before .before .pre .0; lane = c .before .before .places3 .ensures .lane; picks = c .before .before .before .before .before .before .before .before .before .before .before .before .pick .ensures }, (lit≤ tt, lit≤ tt))
 
 add-j : tie.Need-add-j Inv-loop μ-loop
 add-j c = omega arith
@@ -58,13 +46,13 @@ loop-less : tie.Need-loop-less Inv-loop μ-loop
 loop-less c = omega arith
 
 loop-again : tie.Need-loop-again Inv-loop μ-loop
-loop-again c = passed-more (c .before .before .before .before .before .before .before .before .before .before .before .before .before .before .before .before .before .before .before .before .before .before .before .before .loop .inv) (c .before .before .before .before .before .before .before .before .before .before .before .before .before .before .before .before .before .before .before .before .before .before .before .loop-test .taken) (kept-then (c .before .before .before .before .before .before .before .before .before .before .before .before .before .before .before .before .places .ensures .kept) (kept-then (c .before .before .before .before .before .before .before .before .before .before .before .places2 .ensures .kept) (kept-then (c .before .before .before .before .before .before .places3 .ensures .kept) (c .before .places4 .ensures .kept)))) (c .before .places4 .ensures .lane .part)
+loop-again c = passed-more (c .before .before .before .before .before .before .before .before .before .before .before .before .before .before .before .before .before .loop .inv) (c .before .before .before .before .before .before .before .before .before .before .before .before .before .before .before .before .loop-test .taken) (kept-then (c .before .before .before .before .before .before .before .before .before .before .places .ensures .kept) (kept-then (c .before .before .before .before .before .before .before .places2 .ensures .kept) (kept-then (c .before .before .before .before .places3 .ensures .kept) (c .before .places4 .ensures .kept)))) (c .before .places4 .ensures .lane .part)
 
 same-length : tie.Need-same-length Inv-loop μ-loop
 same-length c = c .before .loop .inv .long
 
 returns : tie.Need-returns Inv-loop μ-loop
-returns c = passed-all (c .before .before .before .pre .level) (c .before .loop .inv) (c .loop-test .left)
+returns c = passed-all (c .before .before .pre .1 .level) (c .before .loop .inv) (c .loop-test .left)
 
 pub rows32-24-spec : {M : Type 1} → statement M
 rows32-24-spec =
@@ -72,17 +60,13 @@ rows32-24-spec =
     (tie.spec
     Inv-loop
     μ-loop
-    table-requires
     loop-holds
     slice-aggregate-pick
     pick-requires
-    slice-aggregate-places
+    slice-aggregate-x
     places-requires
-    slice-aggregate-places-2
     places-requires-2
-    slice-aggregate-places-3
     places-requires-3
-    slice-aggregate-places-4
     places-requires-4
     add-j
     loop-less

@@ -6,11 +6,14 @@ use Rattle.halving.proofs.Step.{none, all}
 use Rattle.levels.proofs.level8.level8.Statement.{statement}
 use Rattle.levels.proofs.level8.level8.Tie as tie
 
+table-requires : tie.Need-table-requires
+table-requires c κs = tt
+
 rows8-0-requires : tie.Need-rows8-0-requires
-rows8-0-requires c κs = let s = c .before in record { level = record { narrow = s .pre .0 .narrow; whole = refl; size = lit≤ tt; room = s .pre .1 }; part = λ j h. none (s .pre .0 .sums j h) }
+rows8-0-requires c κs = let s = c .before .before .before in (c .before .before .table .ensures, record { level = record { narrow = s .pre .0 .narrow; whole = refl; size = lit≤ tt; room = s .pre .1 }; part = λ j h. none (s .pre .0 .sums j h) })
 
 same-length : tie.Need-same-length
-same-length c = c .before .rows8-0 .kept .1 .0
+same-length c = c .before .rows8-0 .kept .1 .1 .0
 
 returns : tie.Need-returns
 returns c = record { narrow = c .before .rows8-0 .ensures .level .narrow; sums = λ j h. all (c .before .rows8-0 .ensures .part j h) }
@@ -19,6 +22,7 @@ pub level8-spec : {M : Type 1} → statement M
 level8-spec =
     tie.close
     (tie.spec
+    table-requires
     rows8-0-requires
     same-length
     returns)

@@ -9,16 +9,13 @@ use Rattle.levels.proofs.level8.rows8_0.Statement.{statement}
 use Rattle.levels.proofs.level8.rows8_0.Tie as tie
 
 abbrev Inv-loop : tie.InvT-loop
-Inv-loop s e₀ t j₀ e j = Passed (Places s 8 0) (Places s 8 8) e₀ e j
+Inv-loop t s e₀ j₀ e j = Passed (Places s 8 0) (Places s 8 8) e₀ e j
 
 abbrev μ-loop : tie.MeasureT-loop
-μ-loop s e₀ t j₀ e j = 16 - j
-
-table-requires : tie.Need-table-requires Inv-loop μ-loop
-table-requires c κs = tt
+μ-loop t s e₀ j₀ e j = 16 - j
 
 loop-holds : tie.Need-loop-holds Inv-loop μ-loop
-loop-holds c = passed-none (c .before .pre .part)
+loop-holds c = passed-none (c .pre .1 .part)
 
 slice-aggregate-pick : tie.Need-slice-aggregate-pick Inv-loop μ-loop
 slice-aggregate-pick c = refl
@@ -26,11 +23,11 @@ slice-aggregate-pick c = refl
 pick-requires : tie.Need-pick-requires Inv-loop μ-loop
 pick-requires c κs = (refl, record { some = lit< tt; rows = lit≤ tt; column = lit< tt; among = c .before .loop-test .taken })
 
-slice-aggregate-places : tie.Need-slice-aggregate-places Inv-loop μ-loop
-slice-aggregate-places c = sym (c .before .before .before .pick .ensures .long)
+slice-aggregate-x : tie.Need-slice-aggregate-x Inv-loop μ-loop
+slice-aggregate-x c = sym (c .before .before .pick .ensures .long)
 
 places-requires : tie.Need-places-requires Inv-loop μ-loop
-places-requires c κs = (record { table = c .before .before .before .before .before .before .before .before .table .ensures; lane = next-lane (c .before .before .before .before .before .before .before .before .before .pre .level) (c .before .before .before .before .before .before .before .loop .inv) (c .before .before .before .before .before .before .loop-test .taken); picks = c .before .before .before .before .pick .ensures }, (lit≤ tt, lit≤ tt))
+places-requires c κs = (record { table = c .before .before .before .before .before .before .before .pre .0; lane = next-lane (c .before .before .before .before .before .before .before .pre .1 .level) (c .before .before .before .before .before .before .loop .inv) (c .before .before .before .before .before .loop-test .taken); picks = c .before .before .before .pick .ensures }, (lit≤ tt, lit≤ tt))
 
 add-j : tie.Need-add-j Inv-loop μ-loop
 add-j c = omega arith
@@ -39,13 +36,13 @@ loop-less : tie.Need-loop-less Inv-loop μ-loop
 loop-less c = omega arith
 
 loop-again : tie.Need-loop-again Inv-loop μ-loop
-loop-again c = passed-more (c .before .before .before .before .before .before .before .before .before .loop .inv) (c .before .before .before .before .before .before .before .before .loop-test .taken) (c .before .places .ensures .kept) (c .before .places .ensures .lane .part)
+loop-again c = passed-more (c .before .before .before .before .before .before .before .before .loop .inv) (c .before .before .before .before .before .before .before .loop-test .taken) (c .before .places .ensures .kept) (c .before .places .ensures .lane .part)
 
 same-length : tie.Need-same-length Inv-loop μ-loop
 same-length c = c .before .loop .inv .long
 
 returns : tie.Need-returns Inv-loop μ-loop
-returns c = passed-all (c .before .before .before .pre .level) (c .before .loop .inv) (c .loop-test .left)
+returns c = passed-all (c .before .before .pre .1 .level) (c .before .loop .inv) (c .loop-test .left)
 
 pub rows8-0-spec : {M : Type 1} → statement M
 rows8-0-spec =
@@ -53,11 +50,10 @@ rows8-0-spec =
     (tie.spec
     Inv-loop
     μ-loop
-    table-requires
     loop-holds
     slice-aggregate-pick
     pick-requires
-    slice-aggregate-places
+    slice-aggregate-x
     places-requires
     add-j
     loop-less
