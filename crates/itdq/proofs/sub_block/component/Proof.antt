@@ -10,7 +10,7 @@ use Rattle.evc.specs.Tests.{samplesOf}
 use Rattle.evc.specs.Dequantizer.{scale}
 use Rattle.evc.specs.Jobs.{jobNumber}
 use Rattle.evc.proofs.Jobs.{accepted}
-use Rattle.itdq.proofs.Areas.{area-inside, left-inside, lent-block, lent-done}
+use Rattle.itdq.proofs.Areas.{area-inside, lent-block, lent-done}
 use Rattle.itdq.proofs.SubBlocks.{flagged-job}
 use borrow.Author.Needs.{needs}
 use Rattle.itdq.proofs.sub_block.component.Statement.{statement}
@@ -58,52 +58,37 @@ shl-end c = omega (arith, sum c)
 add-end-2 : tie.Need-add-end-2
 add-end-2 c = omega (arith, inside c, start c .good)
 
-mul-evc-dquant : tie.Need-mul-evc-dquant
-mul-evc-dquant c = omega (arith, inside c, start c .good)
+mul-part : tie.Need-mul-part
+mul-part c = omega (arith, inside c, start c .good)
 
-sub-evc-dquant : tie.Need-sub-evc-dquant
-sub-evc-dquant c = search needs
+sub-part : tie.Need-sub-part
+sub-part c = search needs
 
-part-evc-dquant-start : tie.Need-part-evc-dquant-start
-part-evc-dquant-start c = search needs
+part-part-start : tie.Need-part-part-start
+part-part-start c = search needs
 
-part-evc-dquant-end : tie.Need-part-evc-dquant-end
-part-evc-dquant-end c = inside c
+part-part-end : tie.Need-part-part-end
+part-part-end c = inside c
 
 evc-dquant-requires : tie.Need-evc-dquant-requires
 evc-dquant-requires c κs = search needs
 
 -- ---- where the dequantizer has done its part
-abbrev known : tie.After-coef → tie.After-struct-known
-known c = c .before .before .before .before
-
-mul-both-stages : tie.Need-mul-both-stages
-mul-both-stages c =
-    let k = known c in
-    let r = left-inside (start k .args .coef .now) (start k .args .job) (passed k) (size k) (sized k) _ _ _ (by k) (off k) (c .before .evc-dquant .ensures .1) in
-    omega (arith, start k .good)
-
-sub-both-stages : tie.Need-sub-both-stages
-sub-both-stages c = search needs
-
-part-both-stages-start : tie.Need-part-both-stages-start
-part-both-stages-start c = search needs
-
-part-both-stages-end : tie.Need-part-both-stages-end
-part-both-stages-end c = let k = known c in left-inside (start k .args .coef .now) (start k .args .job) (passed k) (size k) (sized k) _ _ _ (by k) (off k) (c .before .evc-dquant .ensures .1)
+abbrev known : tie.After-part2 → tie.After-struct-known
+known c = c .before .before .before .before .before
 
 both-stages-requires : tie.Need-both-stages-requires
 both-stages-requires c κs =
-    let k = known (c .before) in
-    lent-block (start k .args .coef .now) (start k .args .job) (passed k) (size k) (sized k) _ _ _ (by k) (off k) (c .before .before .evc-dquant .ensures .1)
+    let k = known c in
+    lent-block (start k .args .coef .now) (start k .args .job) (passed k) (size k) (sized k) _ _ _ (by k) (off k) (c .before .evc-dquant .ensures .1)
 
 same-length : tie.Need-same-length
 same-length c = search needs
 
 returns : tie.Need-returns
 returns c =
-    let k = known (c .before .before .before) in
-    lent-done (start k .args .coef .now) (start k .args .job) (passed k) (size k) (sized k) _ _ _ (by k) (off k) (c .before .before .before .before .evc-dquant .ensures .1) _ (c .before .both-stages .ensures)
+    let k = known (c .before .before) in
+    lent-done (start k .args .coef .now) (start k .args .job) (passed k) (size k) (sized k) _ _ _ (by k) (off k) (c .before .before .before .evc-dquant .ensures .1) _ (c .before .both-stages .ensures)
     ∙ flagged-job _ _ _ (k .before .before .if1 .taken)
 
 returns-2 : tie.Need-returns-2
@@ -117,15 +102,11 @@ component-spec =
     add-end
     shl-end
     add-end-2
-    mul-evc-dquant
-    sub-evc-dquant
-    part-evc-dquant-start
-    part-evc-dquant-end
+    mul-part
+    sub-part
+    part-part-start
+    part-part-end
     evc-dquant-requires
-    mul-both-stages
-    sub-both-stages
-    part-both-stages-start
-    part-both-stages-end
     both-stages-requires
     same-length
     returns
