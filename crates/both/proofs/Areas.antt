@@ -1,11 +1,11 @@
--- What an accepted job lends of its buffer, first to the dequantizer, then to both stages, and what it leaves. Assumes nothing.
+-- What an accepted job lends of its buffer, to the dequantizer and then to both stages, and what it leaves. Assumes nothing.
 use Prim.Native.Nat.{ℕ, _+_, _-_, _≤_}
 use native.Mathlib.Nat.{add-sub-cancel-left}
 use native.Mathlib.Omega.{arith}
 use mathlib.Core.Path.{_≡_, sym, ap, _∙_}
 use mathlib.Core.List.{List, _++_, map}
 use lib.ListN.{length, take, drop, length-drop, length-map}
-use lib.Seq.{length-take-le, take-at, drop-at}
+use lib.Seq.{length-take-le}
 use lib.IntN.{ℤ, pos}
 use Rattle.order.proofs.Rows.{change-row}
 use Rattle.evc.specs.declared.Job.{Job}
@@ -18,26 +18,6 @@ use Rattle.refusals.proofs.Areas.{area-run, end-of}
 use Rattle.both.specs.Both.{bothExit}
 use Rattle.both.specs.Blocks.{Block, bothStages}
 use Rattle.both.proofs.Blocks.{both-block}
-
--- ---- a part of k from s put back: y stands there, and the rest is as it was
-abbrev back : List ℤ → List ℤ → ℕ → ℕ → List ℤ
-back b y s k = take s b ++ (y ++ drop k (drop s b))
-
-module _ (b y : List ℤ) (s k : ℕ) (room : s + k ≤ length b) (long : length y ≡ k) where
-  front : length (take s b) ≡ s
-  front = length-take-le s b (omega arith)
-
-  back-take : take s (back b y s k) ≡ take s b
-  back-take = take-at (take s b) _ s front
-
-  back-drop : drop s (back b y s k) ≡ y ++ drop k (drop s b)
-  back-drop = drop-at (take s b) _ s front
-
-  back-part : take k (drop s (back b y s k)) ≡ y
-  back-part = ap (take k) back-drop ∙ take-at y _ k long
-
-  back-rest : drop k (drop s (back b y s k)) ≡ drop k (drop s b)
-  back-rest = ap (drop k) back-drop ∙ drop-at y _ k long
 
 -- ---- n is the size of the job's area as the code has it, and what the job lends of the buffer b is exactly the area
 module _ (b : List ℤ) (j : Job) (z : jobNumber (length b) j ≡ 0) (n : ℕ) (e : n ≡ samplesOf (j .logw) (j .logh)) where
@@ -65,14 +45,8 @@ module _ (b : List ℤ) (j : Job) (z : jobNumber (length b) j ≡ 0) (n : ℕ) (
     y-long : length y ≡ k
     y-long = ap length y-is ∙ length-map part _ ∙ part-long
 
-    inside : j .start + k ≤ length b
-    inside = omega (arith, area-inside)
-
-    -- the buffer then, and the part that is lent of it to both stages
-    abbrev left : List ℤ
-    left = back b y (j .start) k
-
-    lent-block : Block (length (take k (drop (j .start) left))) (j .logw) (j .logh) (j .itshift)
+    -- which is a block that both stages take
+    lent-block : Block (length y) (j .logw) (j .logh) (j .itshift)
     lent-block =
         let a = accepted (length b) j z in
         record {
@@ -81,14 +55,13 @@ module _ (b : List ℤ) (j : Job) (z : jobNumber (length b) j ≡ 0) (n : ℕ) (
           h1 = a .h1;
           h6 = a .h6;
           s31 = a .it31;
-          long = ap length (back-part b y (j .start) k inside y-long) ∙ y-long ∙ lent-size ∙ e;
+          long = y-long ∙ lent-size ∙ e;
         }
 
     -- and the buffer at the end, with x as both stages leave it in place of the part
-    pub lent-done : (x : List ℤ) → x ≡ bothExit (j .logw) (j .logh) (j .itshift) (take k (drop (j .start) left))
-        → take (j .start) left ++ (x ++ drop k (drop (j .start) left)) ≡ jobExit j b
+    pub lent-done : (x : List ℤ) → x ≡ bothExit (j .logw) (j .logh) (j .itshift) y → take (j .start) b ++ (x ++ drop k (drop (j .start) b)) ≡ jobExit j b
     unfolding jobExit block bothStages
-    lent-done x h′ =
-        let h : x ≡ bothStages (j .logw) (j .logh) (j .itshift) (take k (drop (j .start) left)) = h′ ∙ both-block (j .logw) (j .logh) (j .itshift) (take k (drop (j .start) left)) lent-block in
-        rw (z, back-take b y (j .start) k inside y-long, back-rest b y (j .start) k inside y-long, h, back-part b y (j .start) k inside y-long, y-is, lent-size, area-run j, ← e)
+    lent-done x e′ =
+        let h : x ≡ bothStages (j .logw) (j .logh) (j .itshift) y = e′ ∙ both-block (j .logw) (j .logh) (j .itshift) y lent-block in
+        rw (z, h, y-is, lent-size, area-run j, ← e)
         (sym (change-row (pos 0) (block j) (length-block j) b (j .start) n area-inside))

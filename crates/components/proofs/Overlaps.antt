@@ -19,7 +19,6 @@ use Rattle.evc.specs.Jobs.{area}
 use Rattle.evc.specs.SubBlocks.{isSome, overlap}
 use Rattle.evc.proofs.SubBlocks.{orElse}
 use Rattle.refusals.proofs.Areas.{area-run}
-use Rattle.components.specs.Ranges.{Sides}
 
 some-or-none : (l : List ℕ) → (l ≡ [] → ⊥) → isSome l ≡ true
 some-or-none [] h = absurd (h refl)

@@ -1,11 +1,10 @@
 -- The sub-block's answer as the code finds it: chroma's limits are its job's own; a component that is refused or passes; the pairs, of which
 -- something is known only where all components have passed. Assumes nothing.
-use Prim.Native.Nat.{ℕ, zero, suc, _-_, _≤_}
+use Prim.Native.Nat.{ℕ, zero, suc, _-_}
 use native.Mathlib.Omega.{arith}
 use mathlib.Core.Path.{_≡_, refl, sym, ap, _∙_}
 use mathlib.Core.Bool.{Bool, true, false, _&&_, false≢true}
 use mathlib.Core.List.{[], _∷_}
-use lib.Dec.{ltb}
 use Rattle.order.proofs.Tests.{ltb-same}
 use Rattle.evc.specs.declared.Job.{Job}
 use Rattle.evc.specs.declared.Part.{Part}

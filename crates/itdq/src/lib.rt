@@ -19,14 +19,8 @@ pub fn evc_itdq_job(coef: &mut [i16], job: Job) -> Answer
     let by = scaling::scale_of(job.qp);
     let start = job.start;
     let end = start + (1usize << (job.logw + job.logh));
-    dquant::evc_dquant(
-        &mut coef[start..end],
-        job.logw,
-        job.logh,
-        by,
-        job.offset,
-        job.dqshift,
-    );
-    both::both_stages(&mut coef[start..end], job.logw, job.logh, job.itshift);
+    let part = &mut coef[start..end];
+    dquant::evc_dquant(part, job.logw, job.logh, by, job.offset, job.dqshift);
+    both::both_stages(part, job.logw, job.logh, job.itshift);
     Answer::Done
 }

@@ -24,15 +24,9 @@ fn component(coef: &mut [i16], flag: bool, job: Job)
         let by = scaling::scale_of(job.qp);
         let start = job.start;
         let end = start + (1usize << (job.logw + job.logh));
-        dquant::evc_dquant(
-            &mut coef[start..end],
-            job.logw,
-            job.logh,
-            by,
-            job.offset,
-            job.dqshift,
-        );
-        both::both_stages(&mut coef[start..end], job.logw, job.logh, job.itshift);
+        let part = &mut coef[start..end];
+        dquant::evc_dquant(part, job.logw, job.logh, by, job.offset, job.dqshift);
+        both::both_stages(part, job.logw, job.logh, job.itshift);
     }
 }
 

@@ -78,36 +78,24 @@ shl-end c = omega (arith, sum c)
 add-end-2 : tie.Need-add-end-2
 add-end-2 c = omega (arith, inside c, start c .good .0 .1)
 
-mul-evc-dquant : tie.Need-mul-evc-dquant
-mul-evc-dquant c = omega (arith, inside c, start c .good .0 .1)
+mul-part : tie.Need-mul-part
+mul-part c = omega (arith, inside c, start c .good .0 .1)
 
-sub-evc-dquant : tie.Need-sub-evc-dquant
-sub-evc-dquant c = search needs
+sub-part : tie.Need-sub-part
+sub-part c = search needs
 
-part-evc-dquant-start : tie.Need-part-evc-dquant-start
-part-evc-dquant-start c = search needs
+part-part-start : tie.Need-part-part-start
+part-part-start c = search needs
 
-part-evc-dquant-end : tie.Need-part-evc-dquant-end
-part-evc-dquant-end c = inside c
+part-part-end : tie.Need-part-part-end
+part-part-end c = inside c
 
 evc-dquant-requires : tie.Need-evc-dquant-requires
 evc-dquant-requires c κs = search needs
 
 -- ---- where the dequantizer has done its part
-abbrev known : tie.After-coef → tie.After-struct-known
-known c = c .before .before .before .before
-
-mul-both-stages : tie.Need-mul-both-stages
-mul-both-stages c = let k = known c in omega (arith, inside k, c .coef .given, start k .good .0 .1)
-
-sub-both-stages : tie.Need-sub-both-stages
-sub-both-stages c = search needs
-
-part-both-stages-start : tie.Need-part-both-stages-start
-part-both-stages-start c = search needs
-
-part-both-stages-end : tie.Need-part-both-stages-end
-part-both-stages-end c = omega (arith, inside (known c), c .coef .given)
+abbrev known : tie.After-part2 → tie.After-struct-known
+known c = c .before .before .before .before .before
 
 both-stages-requires : tie.Need-both-stages-requires
 both-stages-requires c κs = search needs
@@ -117,9 +105,9 @@ same-length c = search needs
 
 returns-2 : tie.Need-returns-2
 returns-2 c =
-    let k = known (c .before .before .before) in (
+    let k = known (c .before .before) in (
       sym (passed k),
-      lent-done (start k .args .coef .now) (start k .args .job) (passed k) (size k) (sized k) _ _ _ (by k) (off k) (c .before .before .before .before .evc-dquant .ensures .1) _ (c .before .both-stages .ensures),
+      lent-done (start k .args .coef .now) (start k .args .job) (passed k) (size k) (sized k) _ _ _ (by k) (off k) (c .before .before .before .evc-dquant .ensures .1) _ (c .before .both-stages .ensures),
     )
 
 pub evc-itdq-job-spec : {M : Type 1} → statement M
@@ -134,15 +122,11 @@ evc-itdq-job-spec =
     add-end
     shl-end
     add-end-2
-    mul-evc-dquant
-    sub-evc-dquant
-    part-evc-dquant-start
-    part-evc-dquant-end
+    mul-part
+    sub-part
+    part-part-start
+    part-part-end
     evc-dquant-requires
-    mul-both-stages
-    sub-both-stages
-    part-both-stages-start
-    part-both-stages-end
     both-stages-requires
     same-length
     returns-2)

@@ -59,36 +59,24 @@ shl-end c = omega (arith, sum c)
 add-end-2 : tie.Need-add-end-2
 add-end-2 c = omega (arith, inside c, start c .good)
 
-mul-evc-dquant : tie.Need-mul-evc-dquant
-mul-evc-dquant c = omega (arith, inside c, start c .good)
+mul-part : tie.Need-mul-part
+mul-part c = omega (arith, inside c, start c .good)
 
-sub-evc-dquant : tie.Need-sub-evc-dquant
-sub-evc-dquant c = search needs
+sub-part : tie.Need-sub-part
+sub-part c = search needs
 
-part-evc-dquant-start : tie.Need-part-evc-dquant-start
-part-evc-dquant-start c = search needs
+part-part-start : tie.Need-part-part-start
+part-part-start c = search needs
 
-part-evc-dquant-end : tie.Need-part-evc-dquant-end
-part-evc-dquant-end c = inside c
+part-part-end : tie.Need-part-part-end
+part-part-end c = inside c
 
 evc-dquant-requires : tie.Need-evc-dquant-requires
 evc-dquant-requires c κs = search needs
 
 -- ---- where the dequantizer has done its part
-abbrev known : tie.After-coef → tie.After-struct-known
-known c = c .before .before .before .before
-
-mul-both-stages : tie.Need-mul-both-stages
-mul-both-stages c = let k = known c in omega (arith, inside k, c .coef .given, start k .good)
-
-sub-both-stages : tie.Need-sub-both-stages
-sub-both-stages c = search needs
-
-part-both-stages-start : tie.Need-part-both-stages-start
-part-both-stages-start c = search needs
-
-part-both-stages-end : tie.Need-part-both-stages-end
-part-both-stages-end c = omega (arith, inside (known c), c .coef .given)
+abbrev known : tie.After-part2 → tie.After-struct-known
+known c = c .before .before .before .before .before
 
 both-stages-requires : tie.Need-both-stages-requires
 both-stages-requires c κs = search needs
@@ -98,8 +86,8 @@ same-length c = search needs
 
 returns : tie.Need-returns
 returns c =
-    let k = known (c .before .before .before) in
-    lent-done (start k .args .coef .now) (start k .args .job) (passed k) (size k) (sized k) _ _ _ (by k) (off k) (c .before .before .before .before .evc-dquant .ensures .1) _ (c .before .both-stages .ensures)
+    let k = known (c .before .before) in
+    lent-done (start k .args .coef .now) (start k .args .job) (passed k) (size k) (sized k) _ _ _ (by k) (off k) (c .before .before .before .evc-dquant .ensures .1) _ (c .before .both-stages .ensures)
     ∙ flagged-job _ _ _ (k .before .before .if1 .taken)
 
 returns-2 : tie.Need-returns-2
@@ -113,15 +101,11 @@ component-spec =
     add-end
     shl-end
     add-end-2
-    mul-evc-dquant
-    sub-evc-dquant
-    part-evc-dquant-start
-    part-evc-dquant-end
+    mul-part
+    sub-part
+    part-part-start
+    part-part-end
     evc-dquant-requires
-    mul-both-stages
-    sub-both-stages
-    part-both-stages-start
-    part-both-stages-end
     both-stages-requires
     same-length
     returns

@@ -1,6 +1,6 @@
 -- `components::pairs::samples` meets its contract: a log of at most 6 is its own remainder. Assumes nothing.
 use native.Mathlib.Omega.{arith}
-use Prim.Native.Nat.{ℕ, _+_, _%_}
+use Prim.Native.Nat.{_+_, _%_}
 use mathlib.Core.Path.{_≡_, _∙_}
 use mir.Syntax.{w64}
 use Rattle.integers.proofs.Bits.{one-shl}

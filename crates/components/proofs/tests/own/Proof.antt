@@ -1,5 +1,5 @@
 -- `components::tests::own` meets its contract. Assumes nothing.
-use mathlib.Core.Path.{_≡_, sym, ap, _∙_}
+use mathlib.Core.Path.{sym, ap, _∙_}
 use Rattle.evc.specs.Answers.{answerNumber}
 use Rattle.refusals.proofs.Matches.{is-done}
 use Rattle.components.proofs.SubTests.{own-here, own-rest, own-off}

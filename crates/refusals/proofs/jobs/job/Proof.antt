@@ -1,12 +1,10 @@
 -- `refusals::jobs::job` meets its contract: each return by the tests that led there. Assumes nothing.
 use mathlib.Core.Path.{_≡_}
 use mathlib.Core.Bool.{false, _||_}
-use lib.Dec.{ltb}
 use Rattle.order.proofs.Tests.{or-neither}
 use Rattle.evc.specs.Tests.{outside}
 use Rattle.evc.proofs.Tests.{outside-no}
 use Rattle.refusals.proofs.Laws.{job-size, job-qp, job-shift, job-area, job-none}
-use borrow.Author.Needs.{needs}
 use Rattle.refusals.proofs.jobs.job.Statement.{statement}
 use Rattle.refusals.proofs.jobs.job.Tie as tie
 

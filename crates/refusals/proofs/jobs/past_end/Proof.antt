@@ -1,6 +1,6 @@
 -- `refusals::jobs::past_end` meets its contract. Assumes nothing.
 use native.Mathlib.Omega.{arith}
-use Prim.Native.Nat.{ℕ, _+_, _*_, _^_, _%_}
+use Prim.Native.Nat.{_+_, _*_, _^_, _%_}
 use mathlib.Core.Path.{_≡_}
 use mir.Syntax.{w64}
 use Rattle.integers.proofs.Bits.{one-shl}

@@ -1,6 +1,6 @@
 -- `refusals::stages::stage_two` meets its contract: each return by the tests that led there. Assumes nothing.
 use native.Mathlib.Omega.{arith}
-use Prim.Native.Nat.{ℕ, _+_, _*_, _^_, _%_, _≤_}
+use Prim.Native.Nat.{_+_, _*_, _^_, _%_, _≤_}
 use mathlib.Core.Path.{_≡_}
 use mathlib.Core.Bool.{false, _||_}
 use lib.Dec.{ltb}
@@ -11,7 +11,6 @@ use Rattle.integers.proofs.Bits.{one-shl}
 use Rattle.evc.specs.Tests.{outside, samplesOf}
 use Rattle.evc.proofs.Tests.{outside-no}
 use Rattle.refusals.proofs.Laws.{stage-size, stage-shift, stage-area, stage-none}
-use borrow.Author.Needs.{needs}
 use Rattle.refusals.proofs.stages.stage_two.Statement.{statement}
 use Rattle.refusals.proofs.stages.stage_two.Tie as tie
 
