@@ -4,11 +4,15 @@
 // l and w doubled. All places are literals where t, w and the size are, so that no table is left at run time.
 // Differs from the Rust in: size 2 is read from the table; 32 bits hold every sum, so that a vector holds four lines.
 ghost use Prim.Native.Nat.{_+_, _*_, _<_};
+ghost use mathlib.Core.List.{[], _∷_};
 ghost use lib.ListN.{length};
 ghost use Rattle.table.specs.Mirror.{Mirrored};
 ghost use Rattle.halving.specs.Line.{rows};
 ghost use Rattle.halving.specs.Straight.{Reach, Product, Odd, Line};
 ghost use Rattle.straightb0.specs.Sums.{narrow};
+
+// The sums of a line of 4, by value: they are read one by one.
+pub(crate) struct Four(pub i32, pub i32, pub i32, pub i32);
 
 // Input k of line j times the table's number in row k, column n.
 fn term(t: &[i8], w: usize, x: &[i16], l: usize, k: usize, n: usize, j: usize) -> i32
@@ -38,14 +42,16 @@ pub(crate) fn line2(t: &[i8], w: usize, x: &[i16], l: usize, j: usize) -> [i32; 
     [a, b]
 }
 
-pub(crate) fn line4(t: &[i8], w: usize, x: &[i16], l: usize, j: usize) -> [i32; 4]
+pub(crate) fn line4(t: &[i8], w: usize, x: &[i16], l: usize, j: usize) -> Four
     requires { ⌜ Reach (now t) w (now x) l j 4 × Mirrored 4 (rows (now t) w) ⌝ }
-    ensures { λ r. ⌜ Line (4 * narrow) (rows (now (t .entry)) w) 4 l (now (x .entry)) j r ⌝ }
+    ensures { λ r. ⌜ Line (4 * narrow) (rows (now (t .entry)) w) 4 l (now (x .entry)) j (r .0 ∷ r .1 ∷ r .2 ∷ r .3 ∷ []) ⌝ }
 {
     let e = line2(t, w + w, x, l + l, j);
     let a = term(t, w, x, l, 1, 0, j) + term(t, w, x, l, 3, 0, j);
     let b = term(t, w, x, l, 1, 1, j) + term(t, w, x, l, 3, 1, j);
-    [e[0] + a, e[1] + b, e[1] - b, e[0] - a]
+    let p = e[0];
+    let q = e[1];
+    Four(p + a, q + b, q - b, p - a)
 }
 
 pub(crate) fn line8(t: &[i8], w: usize, x: &[i16], l: usize, j: usize) -> [i32; 8]
@@ -57,14 +63,9 @@ pub(crate) fn line8(t: &[i8], w: usize, x: &[i16], l: usize, j: usize) -> [i32; 
     let b = odd4(t, w, x, l, 1, j);
     let c = odd4(t, w, x, l, 2, j);
     let d = odd4(t, w, x, l, 3, j);
-    [
-        e[0] + a,
-        e[1] + b,
-        e[2] + c,
-        e[3] + d,
-        e[3] - d,
-        e[2] - c,
-        e[1] - b,
-        e[0] - a,
-    ]
+    let p = e.0;
+    let q = e.1;
+    let r = e.2;
+    let s = e.3;
+    [p + a, q + b, r + c, s + d, s - d, r - c, q - b, p - a]
 }

@@ -31,7 +31,8 @@ fn rows4(src: &[i16], dst: &mut [i32], l: usize)
 {
     for j in 0..l {
         let t = table::table();
-        let y = line4(&t, 1024, src, l, j);
+        let e = line4(&t, 1024, src, l, j);
+        let y = [e.0, e.1, e.2, e.3];
         store_i32(&y, dst, 4, j);
     }
 }
@@ -71,23 +72,24 @@ pub fn itxb0(src: &[i16], dst: &mut [i32], log2_size: usize, log2_line: usize) -
     ensures did { λ r. ⌜ r ≡ ownOne 1 3 0 «log2_size» «log2_line» (now (src .entry)) (now (dst .entry)) ⌝ }
     ensures exit { λ r. ⌜ now (dst .exit) ≡ doneOne r «log2_size» «log2_line» (now (src .entry)) (now (dst .entry)) ⌝ }
 {
+    let n = src.len();
+    let m = dst.len();
     if log2_line == 1 {
         if log2_size == 1 {
-            if halving::mine(1, 3, 0, src.len(), dst.len(), log2_size, log2_line, 0) {
+            let own = halving::mine(1, 3, 0, n, m, log2_size, log2_line, 0);
+            if own {
                 rows2(src, dst, 2);
-                return true;
             }
-            return false;
+            return own;
         }
-        if halving::mine(1, 3, 0, src.len(), dst.len(), log2_size, log2_line, 0) {
+    }
+    let own = halving::mine(1, 3, 0, n, m, log2_size, log2_line, 0);
+    if own {
+        if log2_line == 1 {
+            lines(&src[..], dst, log2_size, 2);
+        } else {
             lines(&src[..], dst, log2_size, 1usize << log2_line);
-            return true;
         }
-        return false;
     }
-    if halving::mine(1, 3, 0, src.len(), dst.len(), log2_size, log2_line, 0) {
-        lines(&src[..], dst, log2_size, 1usize << log2_line);
-        return true;
-    }
-    false
+    own
 }

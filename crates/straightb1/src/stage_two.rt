@@ -21,7 +21,8 @@ fn rows2(src: &[i32], dst: &mut [i16], l: usize, add: i64, shift: u8)
 {
     for j in 0..l {
         let t = table::table();
-        let y = line2(&t, 2048, src, l, j);
+        let e = line2(&t, 2048, src, l, j);
+        let y = [e.0, e.1];
         store_i16(&y, dst, 2, j, add, shift);
     }
 }
@@ -32,7 +33,8 @@ fn rows4(src: &[i32], dst: &mut [i16], l: usize, add: i64, shift: u8)
 {
     for j in 0..l {
         let t = table::table();
-        let y = line4(&t, 1024, src, l, j);
+        let e = line4(&t, 1024, src, l, j);
+        let y = [e.0, e.1, e.2, e.3];
         store_i16(&y, dst, 4, j, add, shift);
     }
 }
@@ -63,24 +65,25 @@ pub fn itxb1(src: &[i32], dst: &mut [i16], log2_size: usize, log2_line: usize, s
     ensures did { λ r. ⌜ r ≡ ownTwo 1 3 0 «log2_size» «log2_line» shift (now (src .entry)) (now (dst .entry)) ⌝ }
     ensures exit { λ r. ⌜ now (dst .exit) ≡ doneTwo r «log2_size» «log2_line» shift (now (src .entry)) (now (dst .entry)) ⌝ }
 {
+    let n = src.len();
+    let m = dst.len();
     if log2_line == 1 {
         if log2_size == 1 {
-            if halving::mine(1, 3, 0, src.len(), dst.len(), log2_size, log2_line, shift) {
+            let own = halving::mine(1, 3, 0, n, m, log2_size, log2_line, shift);
+            if own {
                 let add = halving::rounding(shift);
                 rows2(src, dst, 2, add, shift);
-                return true;
             }
-            return false;
+            return own;
         }
-        if halving::mine(1, 3, 0, src.len(), dst.len(), log2_size, log2_line, shift) {
+    }
+    let own = halving::mine(1, 3, 0, n, m, log2_size, log2_line, shift);
+    if own {
+        if log2_line == 1 {
+            lines(&src[..], dst, log2_size, 1, shift);
+        } else {
             lines(&src[..], dst, log2_size, log2_line, shift);
-            return true;
         }
-        return false;
     }
-    if halving::mine(1, 3, 0, src.len(), dst.len(), log2_size, log2_line, shift) {
-        lines(&src[..], dst, log2_size, log2_line, shift);
-        return true;
-    }
-    false
+    own
 }

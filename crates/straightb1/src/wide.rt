@@ -4,12 +4,18 @@
 // l and w doubled. All places are literals where t, w and the size are, so that no table is left at run time.
 // Differs from the Rust in: size 2 is read from the table; one halving step for both larger sizes.
 ghost use Prim.Native.Nat.{_+_, _*_, _≤_, _<_};
+ghost use mathlib.Core.List.{[], _∷_};
 ghost use lib.ListN.{length};
 ghost use lib.IntN.{natAbs};
 ghost use Rattle.table.specs.Mirror.{Mirrored};
 ghost use Rattle.halving.specs.Line.{rows};
 ghost use Rattle.halving.specs.Straight.{Reach, Product, Odd, Line};
 ghost use Rattle.straightb1.specs.Sums.{wide, most8, Raised};
+
+// The sums of a line of 2, and of 4, by value: they are read one by one.
+pub(crate) struct Two(pub i64, pub i64);
+
+pub(crate) struct Four(pub i64, pub i64, pub i64, pub i64);
 
 // Input k of line j times the table's number in row k, column n.
 fn term(t: &[i8], w: usize, x: &[i32], l: usize, k: usize, n: usize, j: usize) -> i64
@@ -30,23 +36,25 @@ fn odd4(t: &[i8], w: usize, x: &[i32], l: usize, n: usize, j: usize) -> i64
 }
 
 // A line of each size.
-pub(crate) fn line2(t: &[i8], w: usize, x: &[i32], l: usize, j: usize) -> [i64; 2]
+pub(crate) fn line2(t: &[i8], w: usize, x: &[i32], l: usize, j: usize) -> Two
     requires { ⌜ Reach (now t) w (now x) l j 2 ⌝ }
-    ensures { λ r. ⌜ Line (2 * wide) (rows (now (t .entry)) w) 2 l (now (x .entry)) j r ⌝ }
+    ensures { λ r. ⌜ Line (2 * wide) (rows (now (t .entry)) w) 2 l (now (x .entry)) j (r .0 ∷ r .1 ∷ []) ⌝ }
 {
     let a = term(t, w, x, l, 0, 0, j) + term(t, w, x, l, 1, 0, j);
     let b = term(t, w, x, l, 0, 1, j) + term(t, w, x, l, 1, 1, j);
-    [a, b]
+    Two(a, b)
 }
 
-pub(crate) fn line4(t: &[i8], w: usize, x: &[i32], l: usize, j: usize) -> [i64; 4]
+pub(crate) fn line4(t: &[i8], w: usize, x: &[i32], l: usize, j: usize) -> Four
     requires { ⌜ Reach (now t) w (now x) l j 4 × Mirrored 4 (rows (now t) w) ⌝ }
-    ensures { λ r. ⌜ Line (4 * wide) (rows (now (t .entry)) w) 4 l (now (x .entry)) j r ⌝ }
+    ensures { λ r. ⌜ Line (4 * wide) (rows (now (t .entry)) w) 4 l (now (x .entry)) j (r .0 ∷ r .1 ∷ r .2 ∷ r .3 ∷ []) ⌝ }
 {
     let e = line2(t, w + w, x, l + l, j);
     let a = term(t, w, x, l, 1, 0, j) + term(t, w, x, l, 3, 0, j);
     let b = term(t, w, x, l, 1, 1, j) + term(t, w, x, l, 3, 1, j);
-    [e[0] + a, e[1] + b, e[1] - b, e[0] - a]
+    let p = e.0;
+    let q = e.1;
+    Four(p + a, q + b, q - b, p - a)
 }
 
 // Of size 8 the rounding number is added too, to the even half before the halves part: four times instead of eight.
@@ -59,9 +67,9 @@ pub(crate) fn line8(t: &[i8], w: usize, x: &[i32], l: usize, j: usize, add: i64)
     let b = odd4(t, w, x, l, 1, j);
     let c = odd4(t, w, x, l, 2, j);
     let d = odd4(t, w, x, l, 3, j);
-    let p = e[0] + add;
-    let q = e[1] + add;
-    let r = e[2] + add;
-    let s = e[3] + add;
+    let p = e.0 + add;
+    let q = e.1 + add;
+    let r = e.2 + add;
+    let s = e.3 + add;
     [p + a, q + b, r + c, s + d, s - d, r - c, q - b, p - a]
 }

@@ -123,33 +123,27 @@ term-requires-4 c κs = inside (c .before .before .before .before) 3 1 (omega ar
 add-b : tie.Need-add-b
 add-b c = fit (known c) w32 (b c) tt
 
-array-copy-out-t12 : tie.Need-array-copy-out-t12
-array-copy-out-t12 c = lit< tt
+array-copy-out-p : tie.Need-array-copy-out-p
+array-copy-out-p c = lit< tt
 
-add-t13 : tie.Need-add-t13
-add-t13 c = let d = c .before in fit (known d) w32 (low d 0 (a d)) tt
+array-copy-out-q : tie.Need-array-copy-out-q
+array-copy-out-q c = lit< tt
 
-array-copy-out-t18 : tie.Need-array-copy-out-t18
-array-copy-out-t18 c = lit< tt
+add-t14 : tie.Need-add-t14
+add-t14 c = let d = c .before .before in fit (known d) w32 (low d 0 (a d)) tt
 
-add-t19 : tie.Need-add-t19
-add-t19 c = let d = c .before .before in fit (known d) w32 (low d 1 (b d)) tt
+add-t15 : tie.Need-add-t15
+add-t15 c = let d = c .before .before in fit (known d) w32 (low d 1 (b d)) tt
 
-array-copy-out-t22 : tie.Need-array-copy-out-t22
-array-copy-out-t22 c = lit< tt
+sub-t20 : tie.Need-sub-t20
+sub-t20 c = let d = c .before .before in fit (known d) w32 (high d 1 (b d)) tt
 
-sub-t23 : tie.Need-sub-t23
-sub-t23 c = let d = c .before .before .before in fit (known d) w32 (high d 1 (b d)) tt
-
-array-copy-out-t26 : tie.Need-array-copy-out-t26
-array-copy-out-t26 c = lit< tt
-
-sub-t27 : tie.Need-sub-t27
-sub-t27 c = let d = c .before .before .before .before in fit (known d) w32 (high d 0 (a d)) tt
+sub-t21 : tie.Need-sub-t21
+sub-t21 c = let d = c .before .before in fit (known d) w32 (high d 0 (a d)) tt
 
 returns : tie.Need-returns
 returns c =
-    let d = c .before .before .before .before in
+    let d = c .before .before in
     let g = s d .args in
     joined (2 * narrow) (2 * narrow) (g .t .now) (g .w) (g .x .now) (g .l) (g .j) 2 (e d) (out d) (o d) (s d .pre .1) (omega arith) (even d) (odds d) refl (low-is d) (high-is d)
 
@@ -166,12 +160,10 @@ line4-spec =
     term-requires-3
     term-requires-4
     add-b
-    array-copy-out-t12
-    add-t13
-    array-copy-out-t18
-    add-t19
-    array-copy-out-t22
-    sub-t23
-    array-copy-out-t26
-    sub-t27
+    array-copy-out-p
+    array-copy-out-q
+    add-t14
+    add-t15
+    sub-t20
+    sub-t21
     returns)

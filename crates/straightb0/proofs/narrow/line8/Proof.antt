@@ -3,7 +3,6 @@ use mathlib.Core.Path.{_≡_, refl}
 use mathlib.Core.List.{List, [], _∷_, map}
 use Prim.Native.Nat.{ℕ, zero, suc, _+_, _*_, _-_, _<_}
 use native.Mathlib.Omega.{arith}
-use lib.Dec.{lit<}
 use lib.ListN.{length, getD}
 use lib.IntN.{ℤ, pos, _+ℤ_, _-ℤ_}
 use mir.Syntax.{w32}
@@ -28,7 +27,7 @@ module _ (c : tie.After-odd44) where
 
   -- the halves
   abbrev e : List ℤ
-  e = c .before .before .before .before .line4 .result
+  e = let r = c .before .before .before .before .line4 .result in r .0 ∷ r .1 ∷ r .2 ∷ r .3 ∷ []
 
   even : Line (4 * narrow) (rows (s .args .t .now) (s .args .w + s .args .w)) 4 (s .args .l + s .args .l) (s .args .x .now) (s .args .j) e
   even = c .before .before .before .before .line4 .ensures
@@ -102,57 +101,33 @@ odd4-requires-3 c κs = (c .before .before .before .pre .0, omega arith)
 odd4-requires-4 : tie.Need-odd4-requires-4
 odd4-requires-4 c κs = (c .before .before .before .before .pre .0, omega arith)
 
-array-copy-out-t16 : tie.Need-array-copy-out-t16
-array-copy-out-t16 c = lit< tt
-
 add-t17 : tie.Need-add-t17
-add-t17 c = fit (known (c .before)) w32 (low (c .before) 0) tt
+add-t17 c = let d = c .before .before .before .before in fit (known d) w32 (low d 0) tt
 
-array-copy-out-t20 : tie.Need-array-copy-out-t20
-array-copy-out-t20 c = lit< tt
+add-t18 : tie.Need-add-t18
+add-t18 c = let d = c .before .before .before .before in fit (known d) w32 (low d 1) tt
 
-add-t21 : tie.Need-add-t21
-add-t21 c = fit (known (c .before .before)) w32 (low (c .before .before) 1) tt
+add-t19 : tie.Need-add-t19
+add-t19 c = let d = c .before .before .before .before in fit (known d) w32 (low d 2) tt
 
-array-copy-out-t24 : tie.Need-array-copy-out-t24
-array-copy-out-t24 c = lit< tt
+add-t20 : tie.Need-add-t20
+add-t20 c = let d = c .before .before .before .before in fit (known d) w32 (low d 3) tt
 
-add-t25 : tie.Need-add-t25
-add-t25 c = fit (known (c .before .before .before)) w32 (low (c .before .before .before) 2) tt
+sub-t21 : tie.Need-sub-t21
+sub-t21 c = let d = c .before .before .before .before in fit (known d) w32 (high d 3) tt
 
-array-copy-out-t28 : tie.Need-array-copy-out-t28
-array-copy-out-t28 c = lit< tt
+sub-t22 : tie.Need-sub-t22
+sub-t22 c = let d = c .before .before .before .before in fit (known d) w32 (high d 2) tt
 
-add-t29 : tie.Need-add-t29
-add-t29 c = fit (known (c .before .before .before .before)) w32 (low (c .before .before .before .before) 3) tt
+sub-t23 : tie.Need-sub-t23
+sub-t23 c = let d = c .before .before .before .before in fit (known d) w32 (high d 1) tt
 
-array-copy-out-t32 : tie.Need-array-copy-out-t32
-array-copy-out-t32 c = lit< tt
-
-sub-t33 : tie.Need-sub-t33
-sub-t33 c = fit (known (c .before .before .before .before .before)) w32 (high (c .before .before .before .before .before) 3) tt
-
-array-copy-out-t36 : tie.Need-array-copy-out-t36
-array-copy-out-t36 c = lit< tt
-
-sub-t37 : tie.Need-sub-t37
-sub-t37 c = fit (known (c .before .before .before .before .before .before)) w32 (high (c .before .before .before .before .before .before) 2) tt
-
-array-copy-out-t40 : tie.Need-array-copy-out-t40
-array-copy-out-t40 c = lit< tt
-
-sub-t41 : tie.Need-sub-t41
-sub-t41 c = fit (known (c .before .before .before .before .before .before .before)) w32 (high (c .before .before .before .before .before .before .before) 1) tt
-
-array-copy-out-t44 : tie.Need-array-copy-out-t44
-array-copy-out-t44 c = lit< tt
-
-sub-t45 : tie.Need-sub-t45
-sub-t45 c = fit (known (c .before .before .before .before .before .before .before .before)) w32 (high (c .before .before .before .before .before .before .before .before) 0) tt
+sub-t24 : tie.Need-sub-t24
+sub-t24 c = let d = c .before .before .before .before in fit (known d) w32 (high d 0) tt
 
 returns : tie.Need-returns
 returns c =
-    let d = c .before .before .before .before .before .before .before .before in
+    let d = c .before .before .before .before in
     let a = s d .args in
     joined (4 * narrow) (4 * narrow) (a .t .now) (a .w) (a .x .now) (a .l) (a .j) 4 (e d) (out d) (o d) (s d .pre .1 .0) (omega arith) (even d) (odds d) refl (low-is d) (high-is d)
 
@@ -167,20 +142,12 @@ line8-spec =
     odd4-requires-2
     odd4-requires-3
     odd4-requires-4
-    array-copy-out-t16
     add-t17
-    array-copy-out-t20
-    add-t21
-    array-copy-out-t24
-    add-t25
-    array-copy-out-t28
-    add-t29
-    array-copy-out-t32
-    sub-t33
-    array-copy-out-t36
-    sub-t37
-    array-copy-out-t40
-    sub-t41
-    array-copy-out-t44
-    sub-t45
+    add-t18
+    add-t19
+    add-t20
+    sub-t21
+    sub-t22
+    sub-t23
+    sub-t24
     returns)

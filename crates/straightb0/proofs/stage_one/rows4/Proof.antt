@@ -5,6 +5,7 @@ use mathlib.Core.List.{List}
 use Prim.Native.Nat.{ℕ, _*_, _-_, _≤_, _<_}
 use native.Mathlib.Omega.{arith}
 use lib.IntN.{ℤ}
+use mir.Syntax.{w32}
 use Rattle.integers.specs.Z.{clip32}
 use Rattle.integers.specs.Lists.{written}
 use Rattle.evc.specs.Table.{tm}
@@ -14,7 +15,7 @@ use Rattle.halving.specs.Lines.{Room}
 use Rattle.halving.proofs.Instance.{own-table, own-same}
 use Rattle.halving.proofs.Lines.{room-of, lines-none, lines-more, lines-length, lines-all}
 use Rattle.straightb0.specs.Sums.{narrow}
-use Rattle.halving.proofs.Rows.{reach, rowed}
+use Rattle.halving.proofs.Rows.{reach, rowed, held}
 use Rattle.straightb0.proofs.stage_one.rows4.Statement.{statement}
 use Rattle.straightb0.proofs.stage_one.rows4.Tie as tie
 
@@ -54,29 +55,29 @@ slice-aggregate-store-i32 c = search needs
 
 store-i32-requires : tie.Need-store-i32-requires Inv-loop μ-loop
 store-i32-requires c κs =
-    let y = c .before .before in
+    let y = c .before .before .before in
     let th = y .before .before .before in
     let lo = th .before in
     let s = lo .before in
-    (omega (arith, y .line4 .ensures .long), room s (lo .loop .dst) (lo .loop .j) (th .loop-test .taken) (lo .loop .inv .1) .dst-room)
+    (omega arith, room s (lo .loop .dst) (lo .loop .j) (th .loop-test .taken) (lo .loop .inv .1) .dst-room)
 
 add-j : tie.Need-add-j Inv-loop μ-loop
-add-j c = omega (arith, c .before .before .before .before .before .before .before .loop-test .taken)
+add-j c = omega (arith, c .before .before .before .before .before .before .before .before .loop-test .taken)
 
 loop-less : tie.Need-loop-less Inv-loop μ-loop
-loop-less c = omega (arith, c .before .before .before .before .before .before .before .loop-test .taken)
+loop-less c = omega (arith, c .before .before .before .before .before .before .before .before .loop-test .taken)
 
 loop-again : tie.Need-loop-again Inv-loop μ-loop
 unfolding stageOneAt
 loop-again c =
-    let y = c .before .before .before .before in
+    let y = c .before .before .before .before .before in
     let t = y .before .before .table in
     let th = y .before .before .before in
     let lo = th .before in
     let s = lo .before in (
       omega (arith, th .loop-test .taken),
       lines-more (left s) (s .args .dst .now) 4 (s .args .l) (lo .loop .j) (th .loop-test .taken) (s .pre .dst-room) (lo .loop .inv .1)
-          (rowed clip32 (rows (t .result) 1024) (tm 4) (4 * narrow) 4 (s .args .l) (lo .loop .j) (own-same 2 (omega arith) (t .result) (t .ensures)) (y .line4 .ensures) (c .before .store-i32 .ensures)),
+          (rowed clip32 (rows (t .result) 1024) (tm 4) (4 * narrow) 4 (s .args .l) (lo .loop .j) (own-same 2 (omega arith) (t .result) (t .ensures)) (held w32 (4 * narrow) tt _ (y .line4 .ensures)) (c .before .store-i32 .ensures)),
     )
 
 same-length : tie.Need-same-length Inv-loop μ-loop

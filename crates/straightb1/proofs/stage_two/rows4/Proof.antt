@@ -5,6 +5,7 @@ use mathlib.Core.List.{List}
 use Prim.Native.Nat.{ℕ, _*_, _-_, _≤_, _<_}
 use native.Mathlib.Omega.{arith}
 use lib.IntN.{ℤ}
+use mir.Syntax.{w64}
 use mir.Facts.{toZ-ofZ}
 use Rattle.integers.specs.Lists.{written}
 use Rattle.evc.specs.Table.{tm}
@@ -14,7 +15,7 @@ use Rattle.halving.specs.Lines.{shifted, Room}
 use Rattle.halving.proofs.Instance.{own-table, own-same}
 use Rattle.halving.proofs.Lines.{room-of, lines-none, lines-more, lines-length, lines-all}
 use Rattle.straightb1.specs.Sums.{wide}
-use Rattle.halving.proofs.Rows.{reach, rowed, bounded}
+use Rattle.halving.proofs.Rows.{reach, rowed, bounded, held}
 use Rattle.straightb1.proofs.stage_two.rows4.Statement.{statement}
 use Rattle.straightb1.proofs.stage_two.rows4.Tie as tie
 
@@ -54,29 +55,29 @@ slice-aggregate-store-i16 c = search needs
 
 store-i16-requires : tie.Need-store-i16-requires Inv-loop μ-loop
 store-i16-requires c κs =
-    let y = c .before .before in
+    let y = c .before .before .before in
     let th = y .before .before .before in
     let lo = th .before in
     let s = lo .before in
-    ((rw (toZ-ofZ (s .fits .add)) (s .pre .0), bounded (y .line4 .ensures) (omega arith)), (omega (arith, y .line4 .ensures .long), room s (lo .loop .dst) (lo .loop .j) (th .loop-test .taken) (lo .loop .inv .1) .dst-room))
+    ((rw (toZ-ofZ (s .fits .add)) (s .pre .0), bounded (held w64 (4 * wide) tt _ (y .line4 .ensures)) (omega arith)), (omega arith, room s (lo .loop .dst) (lo .loop .j) (th .loop-test .taken) (lo .loop .inv .1) .dst-room))
 
 add-j : tie.Need-add-j Inv-loop μ-loop
-add-j c = omega (arith, c .before .before .before .before .before .before .before .loop-test .taken)
+add-j c = omega (arith, c .before .before .before .before .before .before .before .before .loop-test .taken)
 
 loop-less : tie.Need-loop-less Inv-loop μ-loop
-loop-less c = omega (arith, c .before .before .before .before .before .before .before .loop-test .taken)
+loop-less c = omega (arith, c .before .before .before .before .before .before .before .before .loop-test .taken)
 
 loop-again : tie.Need-loop-again Inv-loop μ-loop
 unfolding stageTwoAt
 loop-again c =
-    let y = c .before .before .before .before in
+    let y = c .before .before .before .before .before in
     let t = y .before .before .table in
     let th = y .before .before .before in
     let lo = th .before in
     let s = lo .before in (
       omega (arith, th .loop-test .taken),
       lines-more (left s) (s .args .dst .now) 4 (s .args .l) (lo .loop .j) (th .loop-test .taken) (s .pre .1 .dst-room) (lo .loop .inv .1)
-          (rowed (shifted (s .args .shift)) (rows (t .result) 1024) (tm 4) (4 * wide) 4 (s .args .l) (lo .loop .j) (own-same 2 (omega arith) (t .result) (t .ensures)) (y .line4 .ensures) (c .before .store-i16 .ensures)),
+          (rowed (shifted (s .args .shift)) (rows (t .result) 1024) (tm 4) (4 * wide) 4 (s .args .l) (lo .loop .j) (own-same 2 (omega arith) (t .result) (t .ensures)) (held w64 (4 * wide) tt _ (y .line4 .ensures)) (c .before .store-i16 .ensures)),
     )
 
 same-length : tie.Need-same-length Inv-loop μ-loop

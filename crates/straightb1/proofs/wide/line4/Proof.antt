@@ -3,7 +3,6 @@ use mathlib.Core.Path.{_≡_, refl}
 use mathlib.Core.List.{List, [], _∷_, map}
 use Prim.Native.Nat.{ℕ, zero, suc, _+_, _*_, _-_, _<_}
 use native.Mathlib.Omega.{arith}
-use lib.Dec.{lit<}
 use lib.ListN.{length, getD}
 use lib.IntN.{ℤ, pos, _+ℤ_, _-ℤ_}
 use mir.Syntax.{w64}
@@ -39,7 +38,7 @@ module _ (c : tie.After-term4) where
 
   -- the halves
   abbrev e : List ℤ
-  e = c .before .before .before .before .line2 .result
+  e = let r = c .before .before .before .before .line2 .result in r .0 ∷ r .1 ∷ []
 
   even : Line (2 * wide) (rows (s .args .t .now) (s .args .w + s .args .w)) 2 (s .args .l + s .args .l) (s .args .x .now) (s .args .j) e
   even = c .before .before .before .before .line2 .ensures
@@ -123,33 +122,21 @@ term-requires-4 c κs = inside (c .before .before .before .before) 3 1 (omega ar
 add-b : tie.Need-add-b
 add-b c = fit (known c) w64 (b c) tt
 
-array-copy-out-t12 : tie.Need-array-copy-out-t12
-array-copy-out-t12 c = lit< tt
-
 add-t13 : tie.Need-add-t13
-add-t13 c = let d = c .before in fit (known d) w64 (low d 0 (a d)) tt
+add-t13 c = let d = c .before .before in fit (known d) w64 (low d 0 (a d)) tt
 
-array-copy-out-t18 : tie.Need-array-copy-out-t18
-array-copy-out-t18 c = lit< tt
+add-t14 : tie.Need-add-t14
+add-t14 c = let d = c .before .before in fit (known d) w64 (low d 1 (b d)) tt
 
-add-t19 : tie.Need-add-t19
-add-t19 c = let d = c .before .before in fit (known d) w64 (low d 1 (b d)) tt
+sub-t15 : tie.Need-sub-t15
+sub-t15 c = let d = c .before .before in fit (known d) w64 (high d 1 (b d)) tt
 
-array-copy-out-t22 : tie.Need-array-copy-out-t22
-array-copy-out-t22 c = lit< tt
-
-sub-t23 : tie.Need-sub-t23
-sub-t23 c = let d = c .before .before .before in fit (known d) w64 (high d 1 (b d)) tt
-
-array-copy-out-t26 : tie.Need-array-copy-out-t26
-array-copy-out-t26 c = lit< tt
-
-sub-t27 : tie.Need-sub-t27
-sub-t27 c = let d = c .before .before .before .before in fit (known d) w64 (high d 0 (a d)) tt
+sub-t16 : tie.Need-sub-t16
+sub-t16 c = let d = c .before .before in fit (known d) w64 (high d 0 (a d)) tt
 
 returns : tie.Need-returns
 returns c =
-    let d = c .before .before .before .before in
+    let d = c .before .before in
     let g = s d .args in
     joined (2 * wide) (2 * wide) (g .t .now) (g .w) (g .x .now) (g .l) (g .j) 2 (e d) (out d) (o d) (s d .pre .1) (omega arith) (even d) (odds d) refl (low-is d) (high-is d)
 
@@ -166,12 +153,8 @@ line4-spec =
     term-requires-3
     term-requires-4
     add-b
-    array-copy-out-t12
     add-t13
-    array-copy-out-t18
-    add-t19
-    array-copy-out-t22
-    sub-t23
-    array-copy-out-t26
-    sub-t27
+    add-t14
+    sub-t15
+    sub-t16
     returns)

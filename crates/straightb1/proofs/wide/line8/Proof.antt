@@ -3,7 +3,6 @@ use mathlib.Core.Path.{_≡_, refl}
 use mathlib.Core.List.{List, [], _∷_, map}
 use Prim.Native.Nat.{ℕ, zero, suc, _+_, _*_, _-_, _<_}
 use native.Mathlib.Omega.{arith}
-use lib.Dec.{lit<}
 use lib.ListN.{length, getD}
 use lib.IntN.{ℤ, pos, _+ℤ_, _-ℤ_}
 use mir.Syntax.{w64}
@@ -29,7 +28,7 @@ module _ (c : tie.After-odd44) where
 
   -- the halves
   abbrev e : List ℤ
-  e = c .before .before .before .before .line4 .result
+  e = let r = c .before .before .before .before .line4 .result in r .0 ∷ r .1 ∷ r .2 ∷ r .3 ∷ []
 
   even : Line (4 * wide) (rows (s .args .t .now) (s .args .w + s .args .w)) 4 (s .args .l + s .args .l) (s .args .x .now) (s .args .j) e
   even = c .before .before .before .before .line4 .ensures
@@ -108,57 +107,45 @@ odd4-requires-3 c κs = (c .before .before .before .pre .0 .0, omega arith)
 odd4-requires-4 : tie.Need-odd4-requires-4
 odd4-requires-4 c κs = (c .before .before .before .before .pre .0 .0, omega arith)
 
-array-copy-out-p : tie.Need-array-copy-out-p
-array-copy-out-p c = lit< tt
-
 add-p : tie.Need-add-p
-add-p c = fit (known (c .before)) w64 (add (var 0) (var 8)) tt
-
-array-copy-out-q : tie.Need-array-copy-out-q
-array-copy-out-q c = lit< tt
+add-p c = fit (known (c .before .before)) w64 (add (var 0) (var 8)) tt
 
 add-q : tie.Need-add-q
-add-q c = fit (known (c .before .before)) w64 (add (var 1) (var 8)) tt
-
-array-copy-out-r : tie.Need-array-copy-out-r
-array-copy-out-r c = lit< tt
+add-q c = fit (known (c .before .before .before .before)) w64 (add (var 1) (var 8)) tt
 
 add-r : tie.Need-add-r
-add-r c = fit (known (c .before .before .before)) w64 (add (var 2) (var 8)) tt
-
-array-copy-out-s : tie.Need-array-copy-out-s
-array-copy-out-s c = lit< tt
+add-r c = fit (known (c .before .before .before .before .before .before)) w64 (add (var 2) (var 8)) tt
 
 add-s : tie.Need-add-s
-add-s c = fit (known (c .before .before .before .before)) w64 (add (var 3) (var 8)) tt
+add-s c = fit (known (c .before .before .before .before .before .before .before .before)) w64 (add (var 3) (var 8)) tt
+
+add-t18 : tie.Need-add-t18
+add-t18 c = let d = c .before .before .before .before .before .before .before .before in fit (known d) w64 (low d 0) tt
+
+add-t19 : tie.Need-add-t19
+add-t19 c = let d = c .before .before .before .before .before .before .before .before in fit (known d) w64 (low d 1) tt
+
+add-t20 : tie.Need-add-t20
+add-t20 c = let d = c .before .before .before .before .before .before .before .before in fit (known d) w64 (low d 2) tt
 
 add-t21 : tie.Need-add-t21
-add-t21 c = fit (known (c .before .before .before .before)) w64 (low (c .before .before .before .before) 0) tt
+add-t21 c = let d = c .before .before .before .before .before .before .before .before in fit (known d) w64 (low d 3) tt
 
-add-t28 : tie.Need-add-t28
-add-t28 c = fit (known (c .before .before .before .before)) w64 (low (c .before .before .before .before) 1) tt
+sub-t22 : tie.Need-sub-t22
+sub-t22 c = let d = c .before .before .before .before .before .before .before .before in fit (known d) w64 (high d 3) tt
 
-add-t29 : tie.Need-add-t29
-add-t29 c = fit (known (c .before .before .before .before)) w64 (low (c .before .before .before .before) 2) tt
+sub-t23 : tie.Need-sub-t23
+sub-t23 c = let d = c .before .before .before .before .before .before .before .before in fit (known d) w64 (high d 2) tt
 
-add-t30 : tie.Need-add-t30
-add-t30 c = fit (known (c .before .before .before .before)) w64 (low (c .before .before .before .before) 3) tt
+sub-t24 : tie.Need-sub-t24
+sub-t24 c = let d = c .before .before .before .before .before .before .before .before in fit (known d) w64 (high d 1) tt
 
-sub-t31 : tie.Need-sub-t31
-sub-t31 c = fit (known (c .before .before .before .before)) w64 (high (c .before .before .before .before) 3) tt
-
-sub-t32 : tie.Need-sub-t32
-sub-t32 c = fit (known (c .before .before .before .before)) w64 (high (c .before .before .before .before) 2) tt
-
-sub-t33 : tie.Need-sub-t33
-sub-t33 c = fit (known (c .before .before .before .before)) w64 (high (c .before .before .before .before) 1) tt
-
-sub-t34 : tie.Need-sub-t34
-sub-t34 c = fit (known (c .before .before .before .before)) w64 (high (c .before .before .before .before) 0) tt
+sub-t25 : tie.Need-sub-t25
+sub-t25 c = let d = c .before .before .before .before .before .before .before .before in fit (known d) w64 (high d 0) tt
 
 returns : tie.Need-returns
 returns c =
-    let d = c .before .before .before .before in
+    let d = c .before .before .before .before .before .before .before .before in
     let a = s d .args in
     raised (4 * wide) (4 * wide) (a .t .now) (a .w) (a .x .now) (a .l) (a .j) 4 (e d) (out d) (o d) (s d .pre .0 .1 .0) (omega arith) (even d) (odds d) refl
     2147483648 (a .add) (s d .pre .1) (low-is d) (high-is d)
@@ -174,20 +161,16 @@ line8-spec =
     odd4-requires-2
     odd4-requires-3
     odd4-requires-4
-    array-copy-out-p
     add-p
-    array-copy-out-q
     add-q
-    array-copy-out-r
     add-r
-    array-copy-out-s
     add-s
+    add-t18
+    add-t19
+    add-t20
     add-t21
-    add-t28
-    add-t29
-    add-t30
-    sub-t31
-    sub-t32
-    sub-t33
-    sub-t34
+    sub-t22
+    sub-t23
+    sub-t24
+    sub-t25
     returns)
