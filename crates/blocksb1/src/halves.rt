@@ -21,8 +21,8 @@ fn low(v: i32) -> i16
     (v - (v >> 16) * 65536 - 32768) as i16
 }
 
-fn high_row(src: &[i32], s: &mut [i16], from: usize, to: usize)
-    requires { ⌜ (from + 16 ≤ length (now src)) × (to + 16 ≤ length (now s)) ⌝ }
+fn high_row(src: &[i32], s: &mut [i16; 1024], from: usize, to: usize)
+    requires { ⌜ (from + 16 ≤ length (now src)) × ((to + 16 ≤ 1024) × (length (now s) ≡ 1024)) ⌝ }
     ensures { λ _. ⌜ Run (now (s .entry)) (now (s .exit)) to 16 (λ j. upper (getD (now (src .entry)) (from + j) (pos 0))) ⌝ }
 {
     for j in 0..16 {
@@ -30,8 +30,8 @@ fn high_row(src: &[i32], s: &mut [i16], from: usize, to: usize)
     }
 }
 
-fn low_row(src: &[i32], s: &mut [i16], from: usize, to: usize)
-    requires { ⌜ (from + 16 ≤ length (now src)) × (to + 16 ≤ length (now s)) ⌝ }
+fn low_row(src: &[i32], s: &mut [i16; 1024], from: usize, to: usize)
+    requires { ⌜ (from + 16 ≤ length (now src)) × ((to + 16 ≤ 1024) × (length (now s) ≡ 1024)) ⌝ }
     ensures { λ _. ⌜ Run (now (s .entry)) (now (s .exit)) to 16 (λ j. rest (getD (now (src .entry)) (from + j) (pos 0))) ⌝ }
 {
     for j in 0..16 {
@@ -40,7 +40,7 @@ fn low_row(src: &[i32], s: &mut [i16], from: usize, to: usize)
 }
 
 // The upper halves of the lines j0 .. j0 + 15.
-pub(crate) fn highs(src: &[i32], s: &mut [i16], n: usize, p: usize, l: usize, j0: usize)
+pub(crate) fn highs(src: &[i32], s: &mut [i16; 1024], n: usize, p: usize, l: usize, j0: usize)
     requires { ⌜ Source (now src) (now s) n p l j0 ⌝ }
     ensures { λ _. ⌜ Rows (now (s .exit)) p n (λ k j. upper (input (now (src .entry)) l j0 k j)) ⌝ }
 {
@@ -50,7 +50,7 @@ pub(crate) fn highs(src: &[i32], s: &mut [i16], n: usize, p: usize, l: usize, j0
 }
 
 // And the rests.
-pub(crate) fn lows(src: &[i32], s: &mut [i16], n: usize, p: usize, l: usize, j0: usize)
+pub(crate) fn lows(src: &[i32], s: &mut [i16; 1024], n: usize, p: usize, l: usize, j0: usize)
     requires { ⌜ Source (now src) (now s) n p l j0 ⌝ }
     ensures { λ _. ⌜ Rows (now (s .exit)) p n (λ k j. rest (input (now (src .entry)) l j0 k j)) ⌝ }
 {

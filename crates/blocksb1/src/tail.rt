@@ -41,7 +41,8 @@ fn tail_at(
     requires { ⌜ Ready (now h) (now a) (now c) n shift × ((j < 16) × ((k < n) × (at + k < length (now dst)))) ⌝ }
     ensures { λ _. ⌜ now (dst .exit) ≡ set (now (dst .entry)) (at + k) (joined shift (getD (now (h .entry)) (k * 16 + j) (pos 0)) (getD (now (a .entry)) (k * 16 + j) (pos 0)) (getD (now (c .entry)) k (pos 0))) ⌝ }
 {
-    dst[at + k] = last(h[k * 16 + j], a[k * 16 + j], c[k], shift);
+    let i = k * 16 + j;
+    dst[at + k] = last(h[i], a[i], c[k], shift);
 }
 
 // The line of lane j, of n places, to place `at` of the output: four places a turn, which a compiler makes one stretch of code.
@@ -60,10 +61,9 @@ fn tail_line(
 {
     let m = n / 4;
     for q in 0..m {
-        tail_at(h, a, c, dst, n, at, j, 4 * q, shift);
-        tail_at(h, a, c, dst, n, at, j, 4 * q + 1, shift);
-        tail_at(h, a, c, dst, n, at, j, 4 * q + 2, shift);
-        tail_at(h, a, c, dst, n, at, j, 4 * q + 3, shift);
+        for r in 0..4 {
+            tail_at(h, a, c, dst, n, at, j, 4 * q + r, shift);
+        }
     }
 }
 

@@ -30,13 +30,13 @@ shared-slice-copy-out-s : tie.Need-shared-slice-copy-out-s Inv-loop μ-loop
 shared-slice-copy-out-s c = omega (arith, c .before .before .pre .0)
 
 add-t11 : tie.Need-add-t11 Inv-loop μ-loop
-add-t11 c = omega (arith, c .before .before .before .pre .1)
+add-t11 c = omega (arith, c .before .before .before .pre .1 .0)
 
 mul-t12 : tie.Need-mul-t12 Inv-loop μ-loop
-mul-t12 c = omega (arith, c .before .before .before .pre .1)
+mul-t12 c = omega (arith, c .before .before .before .pre .1 .0)
 
-slice-set-from-s : tie.Need-slice-set-from-s Inv-loop μ-loop
-slice-set-from-s c = omega (arith, c .before .before .before .pre .1, c .before .before .loop .inv .1 .long)
+element-set-from-s : tie.Need-element-set-from-s Inv-loop μ-loop
+element-set-from-s c = omega (arith, c .before .before .before .pre .1 .0)
 
 add-j : tie.Need-add-j Inv-loop μ-loop
 add-j c = omega arith
@@ -48,10 +48,7 @@ loop-again : tie.Need-loop-again Inv-loop μ-loop
 loop-again c =
     let s = c .before .before .before in
     let l = c .before .before .loop in
-    (omega arith, run-more _ (l .inv .1) (omega (arith, s .pre .1, l .inv .1 .long)) (toZ-ofZ (sfits-of (c .s .given))))
-
-same-length : tie.Need-same-length Inv-loop μ-loop
-same-length c = c .before .loop .inv .1 .long
+    (omega arith, run-more _ (l .inv .1) (omega (arith, s .pre .1 .0, s .pre .1 .1, l .inv .1 .long)) (toZ-ofZ (sfits-of (c .s .given))))
 
 returns : tie.Need-returns Inv-loop μ-loop
 returns c =
@@ -70,9 +67,8 @@ copy-row-spec =
     shared-slice-copy-out-s
     add-t11
     mul-t12
-    slice-set-from-s
+    element-set-from-s
     add-j
     loop-less
     loop-again
-    same-length
     returns)

@@ -1,5 +1,5 @@
 -- `blocksb0::gather::gather` meets its contract: row after row. Assumes nothing.
-use mathlib.Core.Path.{sym, _∙_, subst}
+use mathlib.Core.Path.{subst}
 use Prim.Native.Nat.{ℕ, _-_, _≤_}
 use native.Mathlib.Omega.{arith}
 use Rattle.halving.specs.Blocks.{input, Rows}
@@ -26,19 +26,16 @@ mul-copy-row-2 : tie.Need-mul-copy-row-2 Inv-loop μ-loop
 mul-copy-row-2 c = omega (arith, write-room (c .before .before .before .pre) (c .before .before .loop .k) (c .before .loop-test .taken))
 
 copy-row-requires : tie.Need-copy-row-requires Inv-loop μ-loop
-copy-row-requires c κs = (omega (arith, read-room (c .before .before .before .pre) (c .before .before .loop .k) (c .before .loop-test .taken)), omega (arith, write-room (c .before .before .before .pre) (c .before .before .loop .k) (c .before .loop-test .taken), c .before .before .loop .inv .1 .long))
+copy-row-requires c κs = (omega (arith, read-room (c .before .before .before .pre) (c .before .before .loop .k) (c .before .loop-test .taken)), (write-room (c .before .before .before .pre) (c .before .before .loop .k) (c .before .loop-test .taken), c .before .before .loop .inv .1 .long))
 
 add-k : tie.Need-add-k Inv-loop μ-loop
-add-k c = omega (arith, c .before .before .before .loop-test .taken)
+add-k c = omega (arith, c .before .before .loop-test .taken)
 
 loop-less : tie.Need-loop-less Inv-loop μ-loop
-loop-less c = omega (arith, c .before .before .before .loop-test .taken)
+loop-less c = omega (arith, c .before .before .loop-test .taken)
 
 loop-again : tie.Need-loop-again Inv-loop μ-loop
-loop-again c = (omega (arith, c .before .before .before .loop-test .taken), rows-more (c .before .before .before .before .loop .inv .1) (c .before .before .before .before .before .pre .apart) (c .before .copy-row .ensures))
-
-same-length : tie.Need-same-length Inv-loop μ-loop
-same-length c = c .before .loop .inv .1 .long ∙ sym (c .before .before .pre .long)
+loop-again c = (omega (arith, c .before .before .loop-test .taken), rows-more (c .before .before .before .loop .inv .1) (c .before .before .before .before .pre .apart) (c .copy-row .ensures))
 
 returns : tie.Need-returns Inv-loop μ-loop
 returns c =
@@ -59,5 +56,4 @@ gather-spec =
     add-k
     loop-less
     loop-again
-    same-length
     returns)

@@ -1,5 +1,5 @@
 -- `blocksb1::halves::highs` meets its contract: row after row. Assumes nothing.
-use mathlib.Core.Path.{sym, _∙_, subst}
+use mathlib.Core.Path.{subst}
 use Prim.Native.Nat.{ℕ, _-_, _≤_}
 use native.Mathlib.Omega.{arith}
 use Rattle.halving.specs.Blocks.{input, Rows}
@@ -27,19 +27,16 @@ mul-high-row-2 : tie.Need-mul-high-row-2 Inv-loop μ-loop
 mul-high-row-2 c = omega (arith, write-room (c .before .before .before .pre) (c .before .before .loop .k) (c .before .loop-test .taken))
 
 high-row-requires : tie.Need-high-row-requires Inv-loop μ-loop
-high-row-requires c κs = (omega (arith, read-room (c .before .before .before .pre) (c .before .before .loop .k) (c .before .loop-test .taken)), omega (arith, write-room (c .before .before .before .pre) (c .before .before .loop .k) (c .before .loop-test .taken), c .before .before .loop .inv .1 .long))
+high-row-requires c κs = (omega (arith, read-room (c .before .before .before .pre) (c .before .before .loop .k) (c .before .loop-test .taken)), (write-room (c .before .before .before .pre) (c .before .before .loop .k) (c .before .loop-test .taken), c .before .before .loop .inv .1 .long))
 
 add-k : tie.Need-add-k Inv-loop μ-loop
-add-k c = omega (arith, c .before .before .before .loop-test .taken)
+add-k c = omega (arith, c .before .before .loop-test .taken)
 
 loop-less : tie.Need-loop-less Inv-loop μ-loop
-loop-less c = omega (arith, c .before .before .before .loop-test .taken)
+loop-less c = omega (arith, c .before .before .loop-test .taken)
 
 loop-again : tie.Need-loop-again Inv-loop μ-loop
-loop-again c = (omega (arith, c .before .before .before .loop-test .taken), rows-more (c .before .before .before .before .loop .inv .1) (c .before .before .before .before .before .pre .apart) (c .before .high-row .ensures))
-
-same-length : tie.Need-same-length Inv-loop μ-loop
-same-length c = c .before .loop .inv .1 .long ∙ sym (c .before .before .pre .long)
+loop-again c = (omega (arith, c .before .before .loop-test .taken), rows-more (c .before .before .before .loop .inv .1) (c .before .before .before .before .pre .apart) (c .high-row .ensures))
 
 returns : tie.Need-returns Inv-loop μ-loop
 returns c =
@@ -60,5 +57,4 @@ highs-spec =
     add-k
     loop-less
     loop-again
-    same-length
     returns)

@@ -36,13 +36,13 @@ low-requires : tie.Need-low-requires Inv-loop μ-loop
 low-requires c κs = tt
 
 add-t12 : tie.Need-add-t12 Inv-loop μ-loop
-add-t12 c = omega (arith, c .before .before .before .before .pre .1)
+add-t12 c = omega (arith, c .before .before .before .before .pre .1 .0)
 
 mul-t13 : tie.Need-mul-t13 Inv-loop μ-loop
-mul-t13 c = omega (arith, c .before .before .before .before .pre .1)
+mul-t13 c = omega (arith, c .before .before .before .before .pre .1 .0)
 
-slice-set-from-s : tie.Need-slice-set-from-s Inv-loop μ-loop
-slice-set-from-s c = omega (arith, c .before .before .before .before .pre .1, c .before .before .before .loop .inv .1 .long)
+element-set-from-s : tie.Need-element-set-from-s Inv-loop μ-loop
+element-set-from-s c = omega (arith, c .before .before .before .before .pre .1 .0)
 
 add-j : tie.Need-add-j Inv-loop μ-loop
 add-j c = omega arith
@@ -56,12 +56,9 @@ loop-again c =
     let l = c .before .before .before .loop in
     let fe : SFits w32 (getD (s .args .src .now) (s .args .from + l .j) (pos 0)) = sfits-of (c .before .low-arg .given) in (
       omega arith,
-      run-more (toZ w16 (ofZ w16 (c .low .result))) (l .inv .1) (omega (arith, s .pre .1, l .inv .1 .long))
+      run-more (toZ w16 (ofZ w16 (c .low .result))) (l .inv .1) (omega (arith, s .pre .1 .0, s .pre .1 .1, l .inv .1 .long))
           (toZ-ofZ (sfits-of (c .low .ok)) ∙ c .low .ensures ∙ ap rest (toZ-ofZ fe)),
     )
-
-same-length : tie.Need-same-length Inv-loop μ-loop
-same-length c = c .before .loop .inv .1 .long
 
 returns : tie.Need-returns Inv-loop μ-loop
 returns c =
@@ -81,9 +78,8 @@ low-row-spec =
     low-requires
     add-t12
     mul-t13
-    slice-set-from-s
+    element-set-from-s
     add-j
     loop-less
     loop-again
-    same-length
     returns)

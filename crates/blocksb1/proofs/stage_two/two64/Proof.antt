@@ -19,35 +19,29 @@ use Rattle.blocksb1.proofs.stage_two.two64.Tie as tie
 long : (g : ℕ → ℤ) {e : List ℤ} → e ≡ tab 1024 g → length e ≡ 1024
 long g p = ap length p ∙ tab-length 1024 g
 
-slice-aggregate-highs : tie.Need-slice-aggregate-highs
-slice-aggregate-highs c = search needs
-
 highs-requires : tie.Need-highs-requires
 highs-requires c κs = let s = c .before in record { long = refl; rows = refl; apart = omega arith; among = s .pre .1 .among; src-room = s .pre .1 .src-room }
 
 sums64-requires : tie.Need-sums64-requires
 sums64-requires c κs = search needs
 
-slice-aggregate-lows : tie.Need-slice-aggregate-lows
-slice-aggregate-lows c = sym (c .before .before .before .before .before .highs .ensures .long)
-
 lows-requires : tie.Need-lows-requires
-lows-requires c κs = let s = c .before .before .before .before .before .before .before in record { long = c .before .before .before .before .before .highs .ensures .long; rows = refl; apart = omega arith; among = s .pre .1 .among; src-room = s .pre .1 .src-room }
+lows-requires c κs = let s = c .before .before .before .before .before .before in record { long = c .before .before .before .before .highs .ensures .long; rows = refl; apart = omega arith; among = s .pre .1 .among; src-room = s .pre .1 .src-room }
 
 sums64-requires-2 : tie.Need-sums64-requires-2
 sums64-requires-2 c κs = search needs
 
 slice-aggregate-tail : tie.Need-slice-aggregate-tail
-slice-aggregate-tail c = sym (long _ (c .before .before .before .before .before .before .before .sums64 .ensures))
+slice-aggregate-tail c = sym (long _ (c .before .before .before .before .before .before .sums64 .ensures))
 
 slice-aggregate-tail-2 : tie.Need-slice-aggregate-tail-2
 slice-aggregate-tail-2 c = sym (long _ (c .before .before .sums642 .ensures))
 
 tail-requires : tie.Need-tail-requires
 tail-requires c κs =
-    let s = c .before .before .before .before .before .before .before .before .before .before .before .before .before .before .before in (
+    let s = c .before .before .before .before .before .before .before .before .before .before .before .before .before in (
       record {
-        h-room = omega (arith, long _ (c .before .before .before .before .before .before .before .before .before .sums64 .ensures));
+        h-room = omega (arith, long _ (c .before .before .before .before .before .before .before .before .sums64 .ensures));
         a-room = omega (arith, long _ (c .before .before .before .sums642 .ensures));
         c-room = omega (arith, offset-long (s .pre .0));
         small = offset-small (s .pre .0) (omega arith);
@@ -64,22 +58,20 @@ same-length c = search needs
 returns : tie.Need-returns
 unfolding laneSum
 returns c =
-    let s = c .before .before .before .before .before .before .before .before .before .before .before .before .before .before .before .before .before in
+    let s = c .before .before .before .before .before .before .before .before .before .before .before .before .before .before .before in
     next-ext (c .before .tail .ensures)
     (λ i h.
     two-at 64 (s .args .l) (s .args .j0) (s .args .src .now) (omega arith) (s .args .shift) i _ _ _
-    (crossed-sum 64 16 refl (c .before .before .before .before .before .before .before .before .before .before .before .before .before .before .before .highs .ensures) 1024 refl (c .before .before .before .before .before .before .before .before .before .before .before .sums64 .ensures) (omega arith) i h)
-    (crossed-sum 64 16 refl (c .before .before .before .before .before .before .before .before .before .lows .ensures) 1024 refl (c .before .before .before .before .before .sums642 .ensures) (omega arith) i h)
+    (crossed-sum 64 16 refl (c .before .before .before .before .before .before .before .before .before .before .before .before .before .highs .ensures) 1024 refl (c .before .before .before .before .before .before .before .before .before .before .sums64 .ensures) (omega arith) i h)
+    (crossed-sum 64 16 refl (c .before .before .before .before .before .before .before .before .lows .ensures) 1024 refl (c .before .before .before .before .before .sums642 .ensures) (omega arith) i h)
     (offset-at (s .pre .0) (i % 64) (mod-lt i (omega arith))))
 
 pub two64-spec : {M : Type 1} → statement M
 two64-spec =
     tie.close
     (tie.spec
-    slice-aggregate-highs
     highs-requires
     sums64-requires
-    slice-aggregate-lows
     lows-requires
     sums64-requires-2
     slice-aggregate-tail

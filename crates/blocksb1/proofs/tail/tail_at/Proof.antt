@@ -1,8 +1,9 @@
 -- `blocksb1::tail::tail_at` meets its contract. Assumes nothing.
 use borrow.Author.Needs.{needs, sfits-of}
 use mathlib.Core.Path.{refl, ap, _∙_}
-use Prim.Native.Nat.{_+_, _*_}
-use lib.ListN.{getD, set}
+use Prim.Native.Nat.{_+_, _*_, _<_}
+use native.Mathlib.Omega.{arith}
+use lib.ListN.{length, getD, set}
 use lib.IntN.{pos}
 use mir.Syntax.{w32, w64}
 use mir.Val.{SFits}
@@ -10,49 +11,56 @@ use mir.Facts.{toZ-ofZ}
 use Rattle.blocksb1.proofs.tail.tail_at.Statement.{statement}
 use Rattle.blocksb1.proofs.tail.tail_at.Tie as tie
 
+-- where it reads
+at-sum : (s : tie.Start) → s .args .k * 16 + s .args .j < s .args .n * 16
+at-sum s = omega (arith, s .pre .1 .0, s .pre .1 .1 .0)
+
+at-h : (s : tie.Start) → s .args .k * 16 + s .args .j < length (s .args .h .now)
+at-h s = omega (arith, at-sum s, s .pre .0 .h-room)
+
+at-a : (s : tie.Start) → s .args .k * 16 + s .args .j < length (s .args .a .now)
+at-a s = omega (arith, at-sum s, s .pre .0 .a-room)
+
+at-c : (s : tie.Start) → s .args .k < length (s .args .c .now)
+at-c s = omega (arith, s .pre .1 .1 .0, s .pre .0 .c-room)
+
+mul-i : tie.Need-mul-i
+mul-i c = omega (arith, at-h c)
+
+add-i : tie.Need-add-i
+add-i c = omega (arith, at-h c)
+
 mul-last : tie.Need-mul-last
-mul-last c = search needs
-
-add-last : tie.Need-add-last
-add-last c = search needs
-
-mul-last-2 : tie.Need-mul-last-2
-mul-last-2 c = search needs
+mul-last c = omega (arith, at-h c)
 
 shared-slice-copy-out-last : tie.Need-shared-slice-copy-out-last
-shared-slice-copy-out-last c = search needs
+shared-slice-copy-out-last c = at-h c
 
-mul-last-3 : tie.Need-mul-last-3
-mul-last-3 c = search needs
-
-add-last-2 : tie.Need-add-last-2
-add-last-2 c = search needs
-
-mul-last-4 : tie.Need-mul-last-4
-mul-last-4 c = search needs
+mul-last-2 : tie.Need-mul-last-2
+mul-last-2 c = omega (arith, at-a (c .before))
 
 shared-slice-copy-out-last-2 : tie.Need-shared-slice-copy-out-last-2
-shared-slice-copy-out-last-2 c = search needs
+shared-slice-copy-out-last-2 c = at-a (c .before)
 
-mul-last-5 : tie.Need-mul-last-5
-mul-last-5 c = search needs
+mul-last-3 : tie.Need-mul-last-3
+mul-last-3 c = omega (arith, at-c (c .before .before))
 
 shared-slice-copy-out-last-3 : tie.Need-shared-slice-copy-out-last-3
-shared-slice-copy-out-last-3 c = search needs
+shared-slice-copy-out-last-3 c = at-c (c .before .before)
 
 last-requires : tie.Need-last-requires
 last-requires c κs =
     let s = c .before .before .before in
     (s .pre .0 .most, rw (toZ-ofZ (sfits-of (c .last-arg3 .given))) (s .pre .0 .small (s .args .k) (s .pre .1 .1 .0)))
 
-add-t24 : tie.Need-add-t24
-add-t24 c = search needs
+add-t21 : tie.Need-add-t21
+add-t21 c = omega (arith, c .before .before .before .before .pre .1 .1 .1)
 
-mul-t25 : tie.Need-mul-t25
-mul-t25 c = search needs
+mul-t22 : tie.Need-mul-t22
+mul-t22 c = omega (arith, c .before .before .before .before .pre .1 .1 .1)
 
 slice-set-from-dst : tie.Need-slice-set-from-dst
-slice-set-from-dst c = search needs
+slice-set-from-dst c = c .before .before .before .before .pre .1 .1 .1
 
 same-length : tie.Need-same-length
 same-length c = search needs
@@ -71,19 +79,17 @@ pub tail-at-spec : {M : Type 1} → statement M
 tail-at-spec =
     tie.close
     (tie.spec
+    mul-i
+    add-i
     mul-last
-    add-last
-    mul-last-2
     shared-slice-copy-out-last
-    mul-last-3
-    add-last-2
-    mul-last-4
+    mul-last-2
     shared-slice-copy-out-last-2
-    mul-last-5
+    mul-last-3
     shared-slice-copy-out-last-3
     last-requires
-    add-t24
-    mul-t25
+    add-t21
+    mul-t22
     slice-set-from-dst
     same-length
     returns)

@@ -1,4 +1,4 @@
--- `blocksb1::tail::tail_line` meets its contract: four places a turn. Assumes nothing.
+-- `blocksb1::tail::tail_line` meets its contract: place after place, four a turn. Assumes nothing.
 use mathlib.Core.List.{List}
 use mathlib.Core.Path.{_≡_, refl, ap, subst, _∙_}
 use Prim.Native.Nat.{ℕ, _+_, _*_, _-_, _≤_, _<_}
@@ -21,6 +21,10 @@ next-put {d₀} {a} {g} {d} {d′} k m v p e q s = record {
       q ∙ written-next (a + k) (a + m) G l d v (omega arith) (omega arith) (p .after G l (omega arith) t (λ i u. h i (omega arith))) (s ∙ h k (omega arith));
 }
 
+-- the same number of places, written otherwise
+as-many : {d₀ d : List ℤ} {a : ℕ} {g : ℕ → ℤ} (k m : ℕ) → k ≡ m → Next d₀ d a k g → Next d₀ d a m g
+as-many {d₀} {d} {a} {g} k m e p = subst (λ (k : ℕ). Next d₀ d a k g) e p
+
 -- what the line of lane j leaves
 abbrev left : List ℤ → List ℤ → List ℤ → ℕ → ℕ → ℕ → ℤ
 left h a c j shift k = joined shift (getD h (k * 16 + j) (pos 0)) (getD a (k * 16 + j) (pos 0)) (getD c k (pos 0))
@@ -31,105 +35,95 @@ Inv-loop h a c dst₀ n at j shift m q₀ dst q = (q ≤ m) × Next dst₀ dst a
 abbrev μ-loop : tie.MeasureT-loop
 μ-loop h a c dst₀ n at j shift m q₀ dst q = m - q
 
--- a turn's places lie within the line, and the line within the sums
-module _ (c : tie.In-loop Inv-loop μ-loop) where
-  four : 4 * c .before .loop .q + 3 < c .before .before .args .n
-  four = omega (arith, c .loop-test .taken, c .before .before .pre .0 .fours)
+-- within a turn: after whatever led to the turn's start
+abbrev Inv-loop2 : tie.InvT-loop2
+Inv-loop2 h a c dst₁ n at j shift m q r₀ dst r = (r ≤ 4) × ((d : List ℤ) → Next d dst₁ at (4 * q) (left h a c j shift) → Next d dst at (4 * q + r) (left h a c j shift))
 
-  word : 4 * c .before .loop .q + 3 < length (c .before .before .args .h .now)
-  word = omega (arith, four, c .before .before .pre .0 .h-room)
+abbrev μ-loop2 : tie.MeasureT-loop2
+μ-loop2 h a c dst₁ n at j shift m q r₀ dst r = 4 - r
 
-loop-holds : tie.Need-loop-holds Inv-loop μ-loop
+-- a place lies within the line, and the line within the sums; what is stored when it comes
+module _ (c : tie.In-loop2 Inv-loop2 μ-loop2 Inv-loop μ-loop) where
+  abbrev s : tie.Start Inv-loop2 μ-loop2 Inv-loop μ-loop
+  s = c .before .before .before .before
+
+  abbrev k : ℕ
+  k = 4 * c .before .before .before .loop .q + c .before .loop2 .r
+
+  inside : k < s .args .n
+  inside = omega (arith, c .loop2-test .taken, c .before .before .loop-test .taken, s .pre .0 .fours)
+
+  word : k * 16 < length (s .args .h .now)
+  word = omega (arith, inside, s .pre .0 .h-room)
+
+  so-far : Next (s .args .dst .now) (c .before .loop2 .dst) (s .args .at) k (left (s .args .h .now) (s .args .a .now) (s .args .c .now) (s .args .j) (s .args .shift))
+  so-far = c .before .loop2 .inv .1 (s .args .dst .now) (c .before .before .before .loop .inv .1)
+
+loop-holds : tie.Need-loop-holds Inv-loop2 μ-loop2 Inv-loop μ-loop
 loop-holds c = (omega arith, next-none)
 
-mul-tail-at : tie.Need-mul-tail-at Inv-loop μ-loop
+loop2-holds : tie.Need-loop2-holds Inv-loop2 μ-loop2 Inv-loop μ-loop
+loop2-holds c = (omega arith, λ d p. as-many _ _ (omega arith) p)
+
+mul-tail-at : tie.Need-mul-tail-at Inv-loop2 μ-loop2 Inv-loop μ-loop
 mul-tail-at c = omega (arith, word (c .before))
 
-tail-at-requires : tie.Need-tail-at-requires Inv-loop μ-loop
+add-tail-at : tie.Need-add-tail-at Inv-loop2 μ-loop2 Inv-loop μ-loop
+add-tail-at c = omega (arith, word (c .before))
+
+tail-at-requires : tie.Need-tail-at-requires Inv-loop2 μ-loop2 Inv-loop μ-loop
 tail-at-requires c κs =
-    let s = c .before .before .before in (s .pre .0, (s .pre .1 .0, (omega (arith, four (c .before)), omega (arith, four (c .before), s .pre .1 .1, c .before .before .loop .inv .1 .long))))
+    let p = s (c .before) .pre in
+    (p .0, (p .1 .0, (inside (c .before), omega (arith, inside (c .before), p .1 .1, so-far (c .before) .long))))
 
-mul-tail-at-2 : tie.Need-mul-tail-at-2 Inv-loop μ-loop
-mul-tail-at-2 c = omega (arith, word (c .before .before .before .before))
+add-r : tie.Need-add-r Inv-loop2 μ-loop2 Inv-loop μ-loop
+add-r c = omega (arith, c .before .before .before .loop2-test .taken)
 
-add-tail-at : tie.Need-add-tail-at Inv-loop μ-loop
-add-tail-at c = omega (arith, word (c .before .before .before .before))
+loop2-less : tie.Need-loop2-less Inv-loop2 μ-loop2 Inv-loop μ-loop
+loop2-less c = omega (arith, c .before .before .before .loop2-test .taken)
 
-tail-at-requires-2 : tie.Need-tail-at-requires-2 Inv-loop μ-loop
-tail-at-requires-2 c κs =
-    let q = c .before .before .before .before .before .loop .q in
-    let p1 = next-put (4 * q) (4 * q + 1) _ (c .before .before .before .before .before .loop .inv .1) (omega arith) (c .before .before .tail-at .ensures) refl in
-    let s = c .before .before .before .before .before .before in (s .pre .0, (s .pre .1 .0, (omega (arith, four (c .before .before .before .before)), omega (arith, four (c .before .before .before .before), s .pre .1 .1, p1 .long))))
+loop2-again : tie.Need-loop2-again Inv-loop2 μ-loop2 Inv-loop μ-loop
+loop2-again c =
+    let u = c .before .before .before in
+    (omega (arith, u .loop2-test .taken), λ d p. next-put (k u) (4 * u .before .before .before .loop .q + (u .before .loop2 .r + 1)) _ (u .before .loop2 .inv .1 d p) (omega arith) (c .before .tail-at .ensures) refl)
 
-mul-tail-at-3 : tie.Need-mul-tail-at-3 Inv-loop μ-loop
-mul-tail-at-3 c = omega (arith, word (c .before .before .before .before .before .before .before))
+add-q : tie.Need-add-q Inv-loop2 μ-loop2 Inv-loop μ-loop
+add-q c = omega (arith, c .before .before .loop-test .taken, c .before .before .before .before .pre .0 .fours)
 
-add-tail-at-2 : tie.Need-add-tail-at-2 Inv-loop μ-loop
-add-tail-at-2 c = omega (arith, word (c .before .before .before .before .before .before .before))
+loop-less : tie.Need-loop-less Inv-loop2 μ-loop2 Inv-loop μ-loop
+loop-less c = omega (arith, c .before .before .loop-test .taken)
 
-tail-at-requires-3 : tie.Need-tail-at-requires-3 Inv-loop μ-loop
-tail-at-requires-3 c κs =
-    let q = c .before .before .before .before .before .before .before .before .loop .q in
-    let p1 = next-put (4 * q) (4 * q + 1) _ (c .before .before .before .before .before .before .before .before .loop .inv .1) (omega arith) (c .before .before .before .before .before .tail-at .ensures) refl in
-    let p2 = next-put (4 * q + 1) (4 * q + 2) _ (p1) (omega arith) (c .before .before .tail-at2 .ensures) refl in
-    let s = c .before .before .before .before .before .before .before .before .before in (s .pre .0, (s .pre .1 .0, (omega (arith, four (c .before .before .before .before .before .before .before)), omega (arith, four (c .before .before .before .before .before .before .before), s .pre .1 .1, p2 .long))))
-
-mul-tail-at-4 : tie.Need-mul-tail-at-4 Inv-loop μ-loop
-mul-tail-at-4 c = omega (arith, word (c .before .before .before .before .before .before .before .before .before .before))
-
-add-tail-at-3 : tie.Need-add-tail-at-3 Inv-loop μ-loop
-add-tail-at-3 c = omega (arith, word (c .before .before .before .before .before .before .before .before .before .before))
-
-tail-at-requires-4 : tie.Need-tail-at-requires-4 Inv-loop μ-loop
-tail-at-requires-4 c κs =
-    let q = c .before .before .before .before .before .before .before .before .before .before .before .loop .q in
-    let p1 = next-put (4 * q) (4 * q + 1) _ (c .before .before .before .before .before .before .before .before .before .before .before .loop .inv .1) (omega arith) (c .before .before .before .before .before .before .before .before .tail-at .ensures) refl in
-    let p2 = next-put (4 * q + 1) (4 * q + 2) _ (p1) (omega arith) (c .before .before .before .before .before .tail-at2 .ensures) refl in
-    let p3 = next-put (4 * q + 2) (4 * q + 3) _ (p2) (omega arith) (c .before .before .tail-at3 .ensures) refl in
-    let s = c .before .before .before .before .before .before .before .before .before .before .before .before in (s .pre .0, (s .pre .1 .0, (omega (arith, four (c .before .before .before .before .before .before .before .before .before .before)), omega (arith, four (c .before .before .before .before .before .before .before .before .before .before), s .pre .1 .1, p3 .long))))
-
-add-q : tie.Need-add-q Inv-loop μ-loop
-add-q c = omega (arith, word (c .before .before .before .before .before .before .before .before .before .before .before .before))
-
-loop-less : tie.Need-loop-less Inv-loop μ-loop
-loop-less c = omega (arith, c .before .before .before .before .before .before .before .before .before .before .before .before .loop-test .taken)
-
-loop-again : tie.Need-loop-again Inv-loop μ-loop
+loop-again : tie.Need-loop-again Inv-loop2 μ-loop2 Inv-loop μ-loop
 loop-again c =
-    let q = c .before .before .before .before .before .before .before .before .before .before .before .before .before .loop .q in
-    let p1 = next-put (4 * q) (4 * q + 1) _ (c .before .before .before .before .before .before .before .before .before .before .before .before .before .loop .inv .1) (omega arith) (c .before .before .before .before .before .before .before .before .before .before .tail-at .ensures) refl in
-    let p2 = next-put (4 * q + 1) (4 * q + 2) _ (p1) (omega arith) (c .before .before .before .before .before .before .before .tail-at2 .ensures) refl in
-    let p3 = next-put (4 * q + 2) (4 * q + 3) _ (p2) (omega arith) (c .before .before .before .before .tail-at3 .ensures) refl in
-    let p4 = next-put (4 * q + 3) (4 * (q + 1)) _ (p3) (omega arith) (c .before .tail-at4 .ensures) refl in
-    (omega (arith, c .before .before .before .before .before .before .before .before .before .before .before .before .loop-test .taken), p4)
+    let t = c .before .before in
+    let l = t .before .loop in
+    let a = t .before .before .args in (
+      omega (arith, t .loop-test .taken),
+      as-many _ _ (omega (arith, c .before .loop2 .inv .0, c .loop2-test .left)) (c .before .loop2 .inv .1 (a .dst .now) (l .inv .1)),
+    )
 
-same-length : tie.Need-same-length Inv-loop μ-loop
+same-length : tie.Need-same-length Inv-loop2 μ-loop2 Inv-loop μ-loop
 same-length c = c .before .loop .inv .1 .long
 
-returns : tie.Need-returns Inv-loop μ-loop
-returns c =
-    let a = c .before .before .args in
-    subst (λ (k : ℕ). Next (a .dst .now) (c .before .loop .dst) (a .at) k (left (a .h .now) (a .a .now) (a .c .now) (a .j) (a .shift)))
-    (omega (arith, c .before .before .pre .0 .fours)) (c .before .loop .inv .1)
+returns : tie.Need-returns Inv-loop2 μ-loop2 Inv-loop μ-loop
+returns c = as-many _ _ (omega (arith, c .before .before .pre .0 .fours)) (c .before .loop .inv .1)
 
 pub tail-line-spec : {M : Type 1} → statement M
 tail-line-spec =
     tie.close
     (tie.spec
+    Inv-loop2
+    μ-loop2
     Inv-loop
     μ-loop
     loop-holds
+    loop2-holds
     mul-tail-at
-    tail-at-requires
-    mul-tail-at-2
     add-tail-at
-    tail-at-requires-2
-    mul-tail-at-3
-    add-tail-at-2
-    tail-at-requires-3
-    mul-tail-at-4
-    add-tail-at-3
-    tail-at-requires-4
+    tail-at-requires
+    add-r
+    loop2-less
+    loop2-again
     add-q
     loop-less
     loop-again
