@@ -10,11 +10,10 @@ ghost use Rattle.halving.specs.Lines.{Rooms};
 ghost use Rattle.halving.specs.Own.{ownOne, doneOne};
 ghost use Rattle.halving.specs.Blocks.{Room, Blocked};
 use super::gather::gather;
-use super::store::store16;
-use super::store::store32;
-use super::store::store64;
+use super::store::store_line;
 
-// Lines j0 .. j0 + 15 of l, of each size.
+// Lines j0 .. j0 + 15 of l, of each size: gathered, summed, and stored line after line. The sizes are literals, so that a compiler unrolls each by
+// itself.
 fn one16(src: &[i16], dst: &mut [i32], l: usize, j0: usize)
     requires { ⌜ Room (now src) (now dst) 16 l j0 ⌝ }
     ensures { λ _. ⌜ Blocked (stageOneAt (tm 16) 16 l (now (src .entry))) (now (dst .entry)) (now (dst .exit)) 16 j0 ⌝ }
@@ -23,7 +22,9 @@ fn one16(src: &[i16], dst: &mut [i32], l: usize, j0: usize)
     gather(src, &mut s, 16, 64, l, j0);
     let mut e = [0i32; 256];
     levels::sums16(&s, &mut e);
-    store16(&e, dst, j0);
+    for j in 0..16 {
+        store_line(&e, dst, 16, (j0 + j) * 16, j);
+    }
 }
 
 fn one32(src: &[i16], dst: &mut [i32], l: usize, j0: usize)
@@ -34,7 +35,9 @@ fn one32(src: &[i16], dst: &mut [i32], l: usize, j0: usize)
     gather(src, &mut s, 32, 32, l, j0);
     let mut e = [0i32; 512];
     levels::sums32(&s, &mut e);
-    store32(&e, dst, j0);
+    for j in 0..16 {
+        store_line(&e, dst, 32, (j0 + j) * 32, j);
+    }
 }
 
 fn one64(src: &[i16], dst: &mut [i32], l: usize, j0: usize)
@@ -45,7 +48,9 @@ fn one64(src: &[i16], dst: &mut [i32], l: usize, j0: usize)
     gather(src, &mut s, 64, 16, l, j0);
     let mut e = [0i32; 1024];
     levels::sums64(&s, &mut e);
-    store64(&e, dst, j0);
+    for j in 0..16 {
+        store_line(&e, dst, 64, (j0 + j) * 64, j);
+    }
 }
 
 // The same by the log of the size.

@@ -17,6 +17,10 @@ use Rattle.halving.proofs.Own.{lines}
 use Rattle.halving.specs.Blocks.{Room, Blocked}
 
 module _ {d₀ : List ℤ} {a : ℕ} {g : ℕ → ℤ} where
+  -- as many places, counted otherwise
+  pub next-count : {d : List ℤ} (n m : ℕ) → n ≡ m → Next d₀ d a n g → Next d₀ d a m g
+  next-count {d} n m e p = subst (λ (n : ℕ). Next d₀ d a n g) e p
+
   -- a run more
   pub next-join : {d d′ : List ℤ} {h : ℕ → ℤ} (n m b c : ℕ) → Next d₀ d a n g → b ≡ a + n → Next d d′ b m h → ((k : ℕ) → k < m → h k ≡ g (n + k)) → c ≡ n + m → Next d₀ d′ a c g
   next-join {d} {d′} {h} n m b c p e q s t = record {

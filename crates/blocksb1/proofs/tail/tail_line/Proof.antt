@@ -1,6 +1,6 @@
 -- `blocksb1::tail::tail_line` meets its contract: place after place, four a turn. Assumes nothing.
 use mathlib.Core.List.{List}
-use mathlib.Core.Path.{_≡_, refl, ap, subst, _∙_}
+use mathlib.Core.Path.{_≡_, refl, ap, _∙_}
 use Prim.Native.Nat.{ℕ, _+_, _*_, _-_, _≤_, _<_}
 use native.Mathlib.Omega.{arith}
 use lib.ListN.{length, getD, set, length-set}
@@ -8,6 +8,7 @@ use lib.IntN.{ℤ, pos}
 use Rattle.integers.proofs.Written.{written-next}
 use Rattle.halving.specs.Lines.{Next}
 use Rattle.halving.proofs.Lines.{next-none}
+use Rattle.halving.proofs.Places.{next-count}
 use Rattle.blocksb1.specs.Halves.{joined}
 use Rattle.blocksb1.proofs.tail.tail_line.Statement.{statement}
 use Rattle.blocksb1.proofs.tail.tail_line.Tie as tie
@@ -20,10 +21,6 @@ next-put {d₀} {a} {g} {d} {d′} k m v p e q s = record {
       λ G l r t h.
       q ∙ written-next (a + k) (a + m) G l d v (omega arith) (omega arith) (p .after G l (omega arith) t (λ i u. h i (omega arith))) (s ∙ h k (omega arith));
 }
-
--- the same number of places, written otherwise
-as-many : {d₀ d : List ℤ} {a : ℕ} {g : ℕ → ℤ} (k m : ℕ) → k ≡ m → Next d₀ d a k g → Next d₀ d a m g
-as-many {d₀} {d} {a} {g} k m e p = subst (λ (k : ℕ). Next d₀ d a k g) e p
 
 -- what the line of lane j leaves
 abbrev left : List ℤ → List ℤ → List ℤ → ℕ → ℕ → ℕ → ℤ
@@ -63,7 +60,7 @@ loop-holds : tie.Need-loop-holds Inv-loop2 μ-loop2 Inv-loop μ-loop
 loop-holds c = (omega arith, next-none)
 
 loop2-holds : tie.Need-loop2-holds Inv-loop2 μ-loop2 Inv-loop μ-loop
-loop2-holds c = (omega arith, λ d p. as-many _ _ (omega arith) p)
+loop2-holds c = (omega arith, λ d p. next-count _ _ (omega arith) p)
 
 mul-tail-at : tie.Need-mul-tail-at Inv-loop2 μ-loop2 Inv-loop μ-loop
 mul-tail-at c = omega (arith, word (c .before))
@@ -99,14 +96,14 @@ loop-again c =
     let l = t .before .loop in
     let a = t .before .before .args in (
       omega (arith, t .loop-test .taken),
-      as-many _ _ (omega (arith, c .before .loop2 .inv .0, c .loop2-test .left)) (c .before .loop2 .inv .1 (a .dst .now) (l .inv .1)),
+      next-count _ _ (omega (arith, c .before .loop2 .inv .0, c .loop2-test .left)) (c .before .loop2 .inv .1 (a .dst .now) (l .inv .1)),
     )
 
 same-length : tie.Need-same-length Inv-loop2 μ-loop2 Inv-loop μ-loop
 same-length c = c .before .loop .inv .1 .long
 
 returns : tie.Need-returns Inv-loop2 μ-loop2 Inv-loop μ-loop
-returns c = as-many _ _ (omega (arith, c .before .before .pre .0 .fours)) (c .before .loop .inv .1)
+returns c = next-count _ _ (omega (arith, c .before .before .pre .0 .fours)) (c .before .loop .inv .1)
 
 pub tail-line-spec : {M : Type 1} → statement M
 tail-line-spec =
