@@ -15,32 +15,29 @@ use Rattle.blocksb1.proofs.tail.tail_at.Tie as tie
 at-sum : (s : tie.Start) → s .args .k * 16 + s .args .j < s .args .n * 16
 at-sum s = omega (arith, s .pre .1 .0, s .pre .1 .1 .0)
 
-at-h : (s : tie.Start) → s .args .k * 16 + s .args .j < length (s .args .h .now)
-at-h s = omega (arith, at-sum s, s .pre .0 .h-room)
-
-at-a : (s : tie.Start) → s .args .k * 16 + s .args .j < length (s .args .a .now)
-at-a s = omega (arith, at-sum s, s .pre .0 .a-room)
+at-sums : (s : tie.Start) → (s .args .k * 16 + s .args .j < length (s .args .h .now)) × (s .args .k * 16 + s .args .j < length (s .args .a .now))
+at-sums s = (omega (arith, at-sum s, s .pre .0 .h-room), omega (arith, at-sum s, s .pre .0 .a-room))
 
 at-c : (s : tie.Start) → s .args .k < length (s .args .c .now)
 at-c s = omega (arith, s .pre .1 .1 .0, s .pre .0 .c-room)
 
 mul-i : tie.Need-mul-i
-mul-i c = omega (arith, at-h c)
+mul-i c = omega (arith, at-sums c .0)
 
 add-i : tie.Need-add-i
-add-i c = omega (arith, at-h c)
+add-i c = omega (arith, at-sums c .0)
 
 mul-last : tie.Need-mul-last
-mul-last c = omega (arith, at-h c)
+mul-last c = omega (arith, at-sums c .0)
 
 shared-slice-copy-out-last : tie.Need-shared-slice-copy-out-last
-shared-slice-copy-out-last c = at-h c
+shared-slice-copy-out-last c = omega (arith, at-sums c .0, at-sums c .1)
 
 mul-last-2 : tie.Need-mul-last-2
-mul-last-2 c = omega (arith, at-a (c .before))
+mul-last-2 c = omega (arith, at-sums (c .before) .1)
 
 shared-slice-copy-out-last-2 : tie.Need-shared-slice-copy-out-last-2
-shared-slice-copy-out-last-2 c = at-a (c .before)
+shared-slice-copy-out-last-2 c = omega (arith, at-sums (c .before) .0, at-sums (c .before) .1)
 
 mul-last-3 : tie.Need-mul-last-3
 mul-last-3 c = omega (arith, at-c (c .before .before))
