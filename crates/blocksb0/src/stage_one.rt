@@ -53,26 +53,19 @@ fn one64(src: &[i16], dst: &mut [i32], l: usize, j0: usize)
     }
 }
 
-// The same by the log of the size.
-fn one(src: &[i16], dst: &mut [i32], log: usize, l: usize, j0: usize)
-    requires { ⌜ (((4 ≤ log) × (log ≤ 6)) × Room (now src) (now dst) (2 ^ log) l j0) ⌝ }
-    ensures { λ _. ⌜ Blocked (stageOneAt (tm (2 ^ log)) (2 ^ log) l (now (src .entry))) (now (dst .entry)) (now (dst .exit)) (2 ^ log) j0 ⌝ }
-{
-    match log {
-        4 => one16(src, dst, l, j0),
-        5 => one32(src, dst, l, j0),
-        _ => one64(src, dst, l, j0),
-    }
-}
-
-// All lines, block after block.
+// All lines, block after block, by the log of the size.
 fn ones(src: &[i16], dst: &mut [i32], log: usize, l: usize)
     requires { ⌜ (((4 ≤ log) × (log ≤ 6)) × (Rooms (now src) (now dst) (2 ^ log) l × (l % 16 ≡ 0))) ⌝ }
     ensures { λ _. ⌜ now (dst .exit) ≡ written ((2 ^ log) * l) (stageOneAt (tm (2 ^ log)) (2 ^ log) l (now (src .entry))) (now (dst .entry)) ⌝ }
 {
     let b = l / 16;
     for i in 0..b {
-        one(src, dst, log, l, i * 16);
+        let j0 = i * 16;
+        match log {
+            4 => one16(src, dst, l, j0),
+            5 => one32(src, dst, l, j0),
+            _ => one64(src, dst, l, j0),
+        }
     }
 }
 
