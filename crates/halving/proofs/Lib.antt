@@ -8,6 +8,13 @@ pub mod Step
 pub mod Lines
 -- document 01's table as an instance
 pub mod Instance
+-- a line by straight code, and stored
+pub mod Straight
+pub mod Rows
+-- 16 lines at a time: a block gathered, runs of the output (places, lines, blocks), what a block's sums are
+pub mod Gathered
+pub mod Places
+pub mod Products
 -- what callers cite
 pub mod Calls
 pub mod Own

@@ -1,5 +1,5 @@
--- What a crate's answer says of a call; and that every accepted call of a stage is done by `straight`, sizes 2^1 to 2^3, or by `itx`, sizes 2^4
--- to 2^6, so that one that neither did is refused, and leaves its output as it was. Assumes nothing.
+-- What a crate's answer says of a call; and that every accepted call of a stage is done by `straightb0` or `straightb1`, sizes 2^1 to 2^3, or by `itx`,
+-- sizes 2^4 to 2^6, so that one that neither did is refused, and leaves its output as it was. Assumes nothing.
 use mathlib.Core.Path.{_≡_, refl, sym, ap, _∙_}
 use mathlib.Core.Bool.{Bool, true, false, cond}
 use mathlib.Core.List.{List}
@@ -57,6 +57,6 @@ module _ (a b : ℕ) (src dst : List ℤ) where
   unfolding stageTwoExit
   two-nobody shift s l = refused _ _ _ (nobody a b _ (two-sizes shift) s l)
 
--- a size above 2^3 is not `straight`'s
+-- a size above 2^3 is neither `straightb0`'s nor `straightb1`'s
 pub not-small : (a b z : ℕ) → 3 < a → own 1 3 0 a b z ≡ false
 not-small a b z h = sym (too-large 1 3 0 a b z (omega arith) h)

@@ -8,14 +8,14 @@ ghost use Rattle.halving.specs.Own.{ownOne};
 use super::told::told;
 use evc::Answer;
 
-// What `straight` does not do. It is called in two places: compilers inline what has one caller, and a small call would pay for the buffers of the
+// What `straightb0` does not do. It is called in two places: compilers inline what has one caller, and a small call would pay for the buffers of the
 // large ones.
 fn large(src: &[i16], dst: &mut [i32], log2_size: usize, log2_line: usize) -> Answer
     requires { ⌜ ownOne 1 3 0 «log2_size» «log2_line» (now src) (now dst) ≡ false ⌝ }
     ensures answer { λ r. ⌜ answerNumber r ≡ stageOneNumber (length (now (src .entry))) (length (now (dst .entry))) «log2_size» «log2_line» ⌝ }
     ensures exit { λ _. ⌜ now (dst .exit) ≡ itxb0Exit «log2_size» «log2_line» (now (src .entry)) (now (dst .entry)) ⌝ }
 {
-    if blocks::itxb0(src, dst, log2_size, log2_line) {
+    if blocksb0::itxb0(src, dst, log2_size, log2_line) {
         return Answer::Done;
     }
     if itx::itxb0(src, dst, log2_size, log2_line) {
@@ -32,7 +32,7 @@ pub fn itxb0(src: &[i16], dst: &mut [i32], log2_size: usize, log2_line: usize) -
     if 3 < log2_size {
         return told(large(&src[..], dst, log2_size, log2_line));
     }
-    if straight::itxb0(src, dst, log2_size, log2_line) {
+    if straightb0::itxb0(src, dst, log2_size, log2_line) {
         return Answer::Done;
     }
     told(large(&src[..], dst, log2_size, log2_line))

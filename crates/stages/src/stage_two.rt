@@ -8,13 +8,13 @@ ghost use Rattle.halving.specs.Own.{ownTwo};
 use super::told::told;
 use evc::Answer;
 
-// What `straight` does not do, called in two places as in stage one.
+// What `straightb1` does not do, called in two places as in stage one.
 fn large(src: &[i32], dst: &mut [i16], log2_size: usize, log2_line: usize, shift: u8) -> Answer
     requires { ⌜ ownTwo 1 3 0 «log2_size» «log2_line» shift (now src) (now dst) ≡ false ⌝ }
     ensures answer { λ r. ⌜ answerNumber r ≡ stageTwoNumber (length (now (src .entry))) (length (now (dst .entry))) «log2_size» «log2_line» shift ⌝ }
     ensures exit { λ _. ⌜ now (dst .exit) ≡ itxb1Exit «log2_size» «log2_line» shift (now (src .entry)) (now (dst .entry)) ⌝ }
 {
-    if blocks::itxb1(src, dst, log2_size, log2_line, shift) {
+    if blocksb1::itxb1(src, dst, log2_size, log2_line, shift) {
         return Answer::Done;
     }
     if itx::itxb1(src, dst, log2_size, log2_line, shift) {
@@ -31,7 +31,7 @@ pub fn itxb1(src: &[i32], dst: &mut [i16], log2_size: usize, log2_line: usize, s
     if 3 < log2_size {
         return told(large(&src[..], dst, log2_size, log2_line, shift));
     }
-    if straight::itxb1(src, dst, log2_size, log2_line, shift) {
+    if straightb1::itxb1(src, dst, log2_size, log2_line, shift) {
         return Answer::Done;
     }
     told(large(&src[..], dst, log2_size, log2_line, shift))

@@ -1,4 +1,4 @@
--- `stages::stage_one::itxb0` meets its contract: a small size by `straight`, or by what it does not do. Assumes nothing.
+-- `stages::stage_one::itxb0` meets its contract: a small size by `straightb0`, or by what it does not do. Assumes nothing.
 use borrow.Author.Needs.{needs}
 use mathlib.Core.Path.{_≡_, sym, subst, _∙_}
 use mathlib.Core.Bool.{false}
@@ -20,7 +20,7 @@ number s d = stageOneNumber (length (s .args .src .now)) (length d) (s .args .lo
 abbrev exit : tie.Start → List ℤ → List ℤ
 exit s d = itxb0Exit (s .args .log2-size) (s .args .log2-line) (s .args .src .now) d
 
--- where `straight` left the call alone
+-- where `straightb0` left the call alone
 left : (c : tie.Else2) → c .before .before .itxb0 .last .1 .0 ≡ c .before .before .before .before .before .args .dst .now
 left c = let s = c .before .before .before .before .before in let k = c .before .before .itxb0 in unchanged 1 3 0 (s .args .log2-size) (s .args .log2-line) (number s) (exit s) (k .result) (s .args .dst .now) (k .ensures .0) (k .ensures .1) (c .if2 .left)
 

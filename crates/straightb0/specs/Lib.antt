@@ -1,0 +1,2 @@
+-- How large the sums of stage one are.
+pub mod Sums

@@ -1,0 +1,3 @@
+-- What the helpers of stage two promise each other: the sums of a line, and lines that go together.
+pub mod Sums
+pub mod Groups
