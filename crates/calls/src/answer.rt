@@ -7,26 +7,18 @@ use evc::Scale;
 use evc::SquaredDistortion;
 use evc::SubAnswer;
 
+// A refusal by its number, or 0.
 fn named(number: u8) {
     words(std::num::wrapping_add_u8(b'0', number));
 }
 
-// A value where nothing was refused.
-fn value(number: u8, v: i64) {
-    if number == 0 {
-        words(b'v');
-        signed(v);
-    } else {
-        named(number);
-    }
+fn value(v: i64) {
+    words(b'v');
+    signed(v);
 }
 
 pub(crate) fn call(a: Answer) {
     named(numbers::answer_number(a));
-}
-
-fn wide(v: u32) -> i64 {
-    v as i64
 }
 
 fn wide_16(v: i16) -> i64 {
@@ -39,24 +31,26 @@ fn wide_32(v: i32) -> i64 {
 
 pub(crate) fn scale(a: Scale) {
     match a {
-        Scale::Value(v) => value(0, wide_32(v)),
+        Scale::Value(v) => value(wide_32(v)),
         Scale::Refused(r) => call(Answer::Refused(r)),
     }
 }
 
 pub(crate) fn distortion(a: Distortion) {
-    let mut v = 0;
-    let number = numbers::tell_distortion(a, &mut v);
-    value(number, wide(v));
+    match a {
+        Distortion::Value(v) => value(v as i64),
+        Distortion::Refused(r) => call(Answer::Refused(r)),
+    }
 }
 
 pub(crate) fn squared(a: SquaredDistortion) {
-    let mut v = 0;
-    let number = numbers::tell_squared(a, &mut v);
-    value(number, v);
+    match a {
+        SquaredDistortion::Value(v) => value(v),
+        SquaredDistortion::Refused(r) => call(Answer::Refused(r)),
+    }
 }
 
-// A refusal names its component.
+// A refusal names its component: the letters from A on stand for it among the words, and none for the number that it has where nothing is refused.
 pub(crate) fn sub_block(a: SubAnswer) {
     let mut component = 9;
     named(numbers::tell_sub_block(a, &mut component));

@@ -31,11 +31,6 @@ fn goes_on(name: u8, word: u8) -> bool {
     (b' ' < name) & (name == word)
 }
 
-// Whether a row starts behind `row`, and both a name and a word have ended.
-fn ended(row: u8, name: u8, word: u8) -> bool {
-    (row == b'\n') & (name <= b' ') & is_blank(word)
-}
-
 // Whether a row starts behind the table's place `at` whose name is the line's word from `from` on: where the two part, both end.
 fn starts(table: &[u8], at: usize, line: &[u8], from: usize) -> bool {
     let mut i = std::num::wrapping_add_usize(at, 20);
@@ -44,7 +39,7 @@ fn starts(table: &[u8], at: usize, line: &[u8], from: usize) -> bool {
         i += 1;
         j = std::num::wrapping_add_usize(j, 1);
     }
-    ended(byte_at(table, at), byte_at(table, i), byte_at(line, j))
+    (byte_at(table, at) == b'\n') & (byte_at(table, i) <= b' ') & is_blank(byte_at(line, j))
 }
 
 // Before which place of the table the row of the call starts whose name the line has from `from` on; or 1067.

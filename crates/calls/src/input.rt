@@ -40,6 +40,7 @@ fn kept(text: &mut Text, at: usize, b: u8) -> usize {
     }
 }
 
+// One byte more. A line that has its end is answered.
 fn taken(text: &mut Text, name: &[u8], s: State, b: u8) -> State {
     let ends = b == b'\n';
     if ends {

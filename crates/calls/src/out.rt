@@ -13,7 +13,7 @@ pub(crate) fn byte(b: u8) {
     text(&[b]);
 }
 
-// In decimal.
+// In decimal. Where it can't be written, what follows it can't be either, and says so.
 pub(crate) fn number(v: u64) {
     io::print_decimal(STDOUT_FILENO, v);
 }

@@ -30,8 +30,8 @@ pub(crate) struct Found {
     pub(crate) kind: u8,
 }
 
-// A call: its tag, how far it is read, what is wrong, with which kind of number, what it takes, in the line's order, and where in the line its buffers
-// of i16, of i32 and of u16 start.
+// A call: its tag, how far it is read, what is wrong, with which kind of number; what it takes, in the line's order, where a buffer stands as the place
+// of the line at which it starts; and the places of its buffers of i16, of i32 and of u16 once more.
 pub(crate) struct Call {
     pub(crate) tag: u8,
     pub(crate) at: usize,
@@ -190,7 +190,8 @@ fn part_at(line: &[u8], at: usize, kind: u8) -> Found {
     }
 }
 
-// The call with what was found at its next place.
+// The call with what was found at its next place. It goes to the end, and the rest moves down: once all 16 places of the table's row are read, the
+// first stands at n0.
 fn with(c: Call, r: Found, kind: u8) -> Call {
     Call {
         tag: c.tag,
@@ -250,7 +251,7 @@ pub(crate) fn bare(tag: u8, at: usize, fault: u8) -> Call {
     }
 }
 
-// What the line says of a call whose row stands at `row` of the table.
+// What the line says of a call. What it takes stands in the table from `row` on.
 fn parts(line: &[u8], table: &[u8], row: usize, call: Call) -> Call {
     let mut c = call;
     let mut i = 0;

@@ -12,6 +12,7 @@ fn sample(v: usize) -> u16 {
     if v <= 65535 { v as u16 } else { 0 }
 }
 
+// An i32 from its two's complement in 64 bits.
 fn wide(v: usize) -> i64 {
     if v <= 2147483647 {
         return v as i64;
@@ -37,7 +38,8 @@ fn least(a: usize, b: usize) -> usize
     if a <= b { a } else { b }
 }
 
-// Copies the buffer that starts at a place of the line, and answers its length.
+// Copies the buffer that starts at a place of the line, and answers its length. The line was read before: nothing is wrong with it, and no run is too
+// long. A call that takes no such buffer has the line's start as its place, where no length stands.
 pub(crate) fn shorts(line: &[u8], at: usize, to: &mut [i16]) -> usize
     ensures { λ r. ⌜ r ≤ length (now (to .exit)) ⌝ }
 {

@@ -46,8 +46,8 @@ byte-at-requires-4 c κs = search needs
 byte-at-requires-5 : tie.Need-byte-at-requires-5 Inv-loop μ-loop
 byte-at-requires-5 c κs = search needs
 
-ended-requires : tie.Need-ended-requires Inv-loop μ-loop
-ended-requires c κs = search needs
+is-blank-requires : tie.Need-is-blank-requires Inv-loop μ-loop
+is-blank-requires c κs = search needs
 
 returns : tie.Need-returns Inv-loop μ-loop
 returns c = search needs
@@ -70,5 +70,5 @@ starts-spec =
     byte-at-requires-3
     byte-at-requires-4
     byte-at-requires-5
-    ended-requires
+    is-blank-requires
     returns)
