@@ -1,7 +1,5 @@
 // The calls: how each is known here, what it takes, and how it is written. Of what it takes: n a number of 64 bits, b a byte, f a flag, w an i32,
 // h an i16; and the buffers H of i16, W of i32, S and T of u16.
-use crate::out::Out;
-use crate::out::after;
 use crate::out::byte;
 use crate::out::row;
 use crate::out::text;
@@ -28,62 +26,54 @@ n nnbHS            sad_bi_16i W H DEPTH BI PRED
 ?                  help
 ";
 
-// Whether the line's word from `from` on is the table's from `at` on.
-fn same(table: &Table, at: usize, line: &[u8], from: usize) -> bool {
-    let mut i = at;
-    let mut j = from;
-    while i < 1087 {
-        let b = byte_at(line, j);
-        if is_blank(b) {
-            return table[i] <= b' ';
-        }
-        if b != table[i] {
-            return false;
-        }
-        i += 1;
-        j = after(j);
-    }
-    false
+// Whether a name goes on with this byte of the table, and the line's word too.
+fn goes_on(name: u8, word: u8) -> bool {
+    (b' ' < name) & (name == word)
 }
 
-// Where the row of the call stands whose name the line has from `from` on; or the table's end.
-pub(crate) fn find(table: &Table, line: &[u8], from: usize) -> usize {
+// Whether a row starts behind the table's place `at` whose name is the line's word from `from` on: where the two part, both end.
+fn starts(table: &[u8], at: usize, line: &[u8], from: usize) -> bool {
+    let mut i = std::num::wrapping_add_usize(at, 20);
+    let mut j = from;
+    while i < 1087 && goes_on(byte_at(table, i), byte_at(line, j)) {
+        i += 1;
+        j = std::num::wrapping_add_usize(j, 1);
+    }
+    (byte_at(table, at) == b'\n') & (byte_at(table, i) <= b' ') & is_blank(byte_at(line, j))
+}
+
+// Before which place of the table the row of the call starts whose name the line has from `from` on; or 1067.
+pub(crate) fn find(table: &[u8], line: &[u8], from: usize) -> usize {
     let mut i = 0;
-    while i < 1067 {
-        if table[i] == b'\n' && same(table, i + 20, line, from) {
-            return i + 1;
-        }
+    while i < 1067 && !starts(table, i, line, from) {
         i += 1;
     }
-    1087
+    i
+}
+
+// How the call with a tag is written, from a column of the table on.
+pub(crate) fn form(tag: u8, column: usize) {
+    row(&TABLE, tag, column);
 }
 
 // How the calls are written.
-fn forms(out: &mut Out, used: usize, table: &Table) -> usize {
-    let mut n = used;
+fn forms() {
     let mut tag = b'a';
     while tag <= b'n' {
-        n = row(out, n, table, tag, 18);
-        n = byte(out, n, b'\n');
+        form(tag, 18);
+        byte(b'\n');
         tag += 1;
     }
-    n
 }
 
 // What the program says where it is given nothing, or 'help'.
-pub(crate) fn usage(out: &mut Out, used: usize, table: &Table) -> usize {
-    let n = text(
-        out,
-        used,
-        b"One call to a line, from standard input or from the files that the arguments name:\n",
-    );
-    let m = forms(out, n, table);
+pub(crate) fn usage() {
+    text(b"One call to a line, from standard input or from the files that the arguments name:\n");
+    forms();
     text(
-        out,
-        m,
         b"ORG CUR DIFF ONE TWO REF PRED BI COEF SRC DST are buffers: a length of at most 16384 and as many numbers, where N*V stands
 for N numbers V, as in 4 1 3*0; or LENGTH*V, as in 64*7. All else is one number; a flag is 0 or 1.
 The answer: the number and name of a refusal, or 0 and what came; after | the final contents of the buffer that the call may write.
 A line that starts with # is repeated, an empty one is passed over.",
-    )
+    );
 }

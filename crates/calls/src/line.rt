@@ -1,64 +1,59 @@
 // One line of the input.
+use crate::answer;
 use crate::distortions;
 use crate::entry;
-use crate::entry::TABLE;
-use crate::entry::Table;
 use crate::fault;
-use crate::numbers::Numbers;
-use crate::out;
-use crate::out::Out;
-use crate::read::Found;
-use crate::read::NONE;
-use crate::read::faulty;
+use crate::out::byte;
+use crate::out::text;
+use crate::read::Call;
 use crate::read::read;
 use crate::token::NOTHING;
-use crate::token::UNKNOWN;
 use crate::token::byte_at;
 use crate::token::seek;
 use crate::transforms;
+use crate::values;
 
-// Reads what the call takes whose name starts at `from`, and whose row stands at `at`.
-fn taken(line: &[u8], from: usize, table: &Table, at: usize, n: &mut Numbers) -> Found {
-    if at < 1067 {
-        return read(line, seek(line, from, true), table, at + 2, n);
+// A call that takes buffers.
+fn buffered(line: &[u8], c: Call) {
+    let mut shorts = [0i16; 16384];
+    let i = values::shorts(line, c.shorts, &mut shorts);
+    let part = &mut shorts[0..i];
+    if c.tag < b'g' {
+        transforms::transform(line, c, part);
+    } else {
+        distortions::compare(line, c, part);
     }
-    faulty(from, UNKNOWN, NONE)
 }
 
 // Makes the call.
-fn made(tag: u8, table: &Table, n: &Numbers, out: &mut Out, used: usize) -> usize {
-    if tag < b'a' {
-        entry::usage(out, used, table)
-    } else if tag < b'g' {
-        transforms::transform(tag, n, out, used)
-    } else {
-        distortions::compare(tag, n, out, used)
+fn made(line: &[u8], c: Call) {
+    let tag = c.tag;
+    match tag {
+        b'?' => entry::usage(),
+        b'a' => answer::scale(scaling::scale(values::byte(c.n0))),
+        _ => buffered(line, c),
     }
+    byte(b'\n');
 }
 
-fn call(line: &[u8], from: usize, name: &[u8], row: u64, out: &mut Out, used: usize) -> usize {
-    let table = TABLE;
-    let at = entry::find(&table, line, from);
-    let tag = byte_at(&table, at);
-    let mut n = [0usize; 65556];
-    let r = taken(line, from, &table, at, &mut n);
-    let m = if r.fault == NOTHING {
-        made(tag, &table, &n, out, used)
+fn called(line: &[u8], from: usize, name: &[u8], row: u64) {
+    let c = read(line, from);
+    if c.fault == NOTHING {
+        made(line, c);
     } else {
-        fault::malformed(out, used, name, row, r, &table, tag)
-    };
-    out::byte(out, m, b'\n')
+        fault::malformed(name, row, c);
+    }
 }
 
 // Answers a line: a comment is repeated, an empty line is passed over, and whatever else is a call or is told to be none.
-pub(crate) fn answered(line: &[u8], name: &[u8], row: u64, out: &mut Out, used: usize) -> usize {
+pub(crate) fn answered(line: &[u8], name: &[u8], row: u64) {
     let from = seek(line, 0, false);
-    if line.len() <= from {
-        return used;
+    match byte_at(line, from) {
+        b' ' => {}
+        b'#' => {
+            text(line);
+            byte(b'\n');
+        }
+        _ => called(line, from, name, row),
     }
-    if line[from] == b'#' {
-        let n = out::text(out, used, line);
-        return out::byte(out, n, b'\n');
-    }
-    call(line, from, name, row, out, used)
 }

@@ -1,19 +1,20 @@
 // Replays calls of the codec's entry points, one to a line, and writes their answers: for trying a call by hand, and for holding recorded answers
-// against the code. `usage` says what a line is. From the bottom: `out` writes, `token`, `numbers` and `read` read, `entry` knows the calls, `answer`
-// and `fault` say, `transforms` and `distortions` call, `line` answers one line and `input` all of them. Nothing here promises more than to be safe and
-// to end: the meaning of the answers is promised by the crates that are called, and that the text is read and written right is shown by the recorded runs.
+// against the code. `usage` says what a line is. From the bottom: `out` writes, `token` and `read` read, `entry` knows the calls, `values` has
+// numbers as the calls take them, `answer` and `fault` say, `transforms` and `distortions` call, `line` answers one line and `input` all of them.
+// Nothing here promises more than to be safe and to end: the meaning of the answers is promised by the crates that are called, and that the text is
+// read and written right is shown by the recorded runs.
 mod answer;
+mod choice;
 mod distortions;
 mod entry;
 mod fault;
 mod input;
 mod line;
-mod numbers;
 mod out;
 mod read;
-mod sign;
 mod token;
 mod transforms;
+mod values;
 
 use libc::STDIN_FILENO;
 
@@ -31,9 +32,10 @@ fn open(path: &[u8]) {
 fn file(i: usize) {
     let mut path = io::buffer();
     let n = os::arg(i, &mut path);
-    if os::errno() != 0 || n == 0 {
-        os::fail(b"an argument");
-        input::replay(-1, b"an argument");
+    if (os::errno() != 0) | (n == 0) {
+        let what = &b"an argument"[..];
+        os::fail(what);
+        input::replay(-1, what);
     } else {
         open(&path[0..n]);
     }

@@ -1,73 +1,122 @@
-// Standard output through a buffer of fixed size. Each function takes how much of the buffer is used and answers how much is used then; a full
-// buffer is written out, so that nothing is ever left out.
-use crate::sign::magnitude;
+// Standard output, piece by piece. Nothing is kept back, so that no function has to be handed a buffer to say something.
+use crate::choice::either;
+use crate::choice::either_byte;
 use libc::STDOUT_FILENO;
 
-pub(crate) type Out = [u8; 65536];
-
-// Writes out what the buffer holds.
-pub(crate) fn flush(out: &Out, used: usize) {
-    let all = &out[..];
-    if used <= all.len() {
-        if !io::write_all(STDOUT_FILENO, &all[0..used]) {
-            os::fail(b"standard output");
-        }
+pub(crate) fn text(s: &[u8]) {
+    if !io::write_all(STDOUT_FILENO, s) {
+        os::fail(b"standard output");
     }
 }
 
-pub(crate) fn byte(out: &mut Out, used: usize, b: u8) -> usize {
-    if used < 65536 {
-        out[used] = b;
-        return used + 1;
-    }
-    flush(out, used);
-    out[0] = b;
-    1
+pub(crate) fn byte(b: u8) {
+    text(&[b]);
 }
 
-pub(crate) fn text(out: &mut Out, used: usize, s: &[u8]) -> usize {
-    let mut n = used;
-    let mut i = 0;
-    while i < s.len() {
-        n = byte(out, n, s[i]);
-        i += 1;
+// In decimal. Where it can't be written, what follows it can't be either, and says so.
+pub(crate) fn number(v: u64) {
+    io::print_decimal(STDOUT_FILENO, v);
+}
+
+// The absolute value. Of the least i64 too, whose negation no i64 holds.
+fn magnitude(v: i64) -> u64 {
+    if v < 0 {
+        let less = -1 - v;
+        return less as u64 + 1;
     }
-    n
+    v as u64
+}
+
+// A blank and a number.
+pub(crate) fn signed(v: i64) {
+    byte(b' ');
+    if v < 0 {
+        byte(b'-');
+    }
+    number(magnitude(v));
+}
+
+// A text's row: its first letter, and the column of the byte at hand, counted from 1. Of the rows that start with `tag`, what stands from `column` on is
+// written.
+struct Column {
+    tag: u8,
+    column: usize,
+    first: u8,
+    at: usize,
+}
+
+fn said(says: bool, b: u8) {
+    if says {
+        byte(b);
+    }
+}
+
+fn passed(r: Column, b: u8) -> Column {
+    let at = either(b == b'\n', 0, std::num::wrapping_add_usize(r.at, 1));
+    let first = either_byte(at == 1, b, r.first);
+    said((first == r.tag) & (r.column <= at), b);
+    Column {
+        tag: r.tag,
+        column: r.column,
+        first,
+        at,
+    }
 }
 
 // Of each row of a text whose first letter is the tag, what stands from a column on. Columns are counted from 1.
-pub(crate) fn row(out: &mut Out, used: usize, s: &[u8], tag: u8, column: usize) -> usize {
-    let mut n = used;
-    let mut first = b'\n';
-    let mut at = 0;
+pub(crate) fn row(s: &[u8], tag: u8, column: usize) {
+    let mut r = Column {
+        tag,
+        column,
+        first: b'\n',
+        at: 0,
+    };
     let mut i = 0;
     while i < s.len() {
-        let b = s[i];
-        at = if b == b'\n' { 0 } else { after(at) };
-        if at == 1 {
-            first = b;
-        }
-        if first == tag && column <= at {
-            n = byte(out, n, b);
-        }
+        r = passed(r, s[i]);
         i += 1;
     }
-    n
 }
 
-// In decimal.
-pub(crate) fn number(out: &mut Out, used: usize, v: u64) -> usize {
-    let mut digits = [0u8; 20];
-    let k = io::decimal(v, &mut digits);
-    text(out, used, &digits[0..k])
-}
-
-pub(crate) fn signed(out: &mut Out, used: usize, v: i64) -> usize {
-    let n = if v < 0 { byte(out, used, b'-') } else { used };
-    number(out, n, magnitude(v))
-}
-
-// One more, up to the largest number.
-pub(crate) fn after(n: usize) -> usize {
-    if n < usize::MAX { n + 1 } else { n }
+// What the program says, each piece behind its tag: answers, components, faults, the ranges of kinds of numbers, and what stands before a fault.
+pub(crate) fn words(tag: u8) {
+    row(
+        b"00 done
+11 SIZE
+22 QP
+33 SHIFT
+44 DEPTH
+55 AREA
+66 OVERLAP
+77 SAMPLE
+v0 value
+A Y
+B U
+C V
+| |
+M: a number is missing
+N: not a number
+R: out of range
+E: more than the call takes
+U: no such call; 'help' lists them
+L: the line has no room from here on, and is left out
+n, 0..18446744073709551615
+b, 0..255
+f, 0..1
+w, -2147483648..2147483647
+h, -32768..32767
+s, 0..65535
+t, 0..65535
+l, a length of 0..16384
+r, 1 to what is left of the buffer
+eerror: 
+,, 
+iline 
+c, column 
+;; 
+uerror: can't read 
+astandard input",
+        tag,
+        2,
+    )
 }

@@ -1,16 +1,14 @@
 // Reads what a call takes. A buffer is a length and as many numbers, where `N*V` stands for N numbers V; or a length and a value at once, `LENGTH*V`.
-use crate::entry::Table;
-use crate::numbers::Numbers;
-use crate::numbers::ONE;
-use crate::numbers::SHORTS;
-use crate::numbers::TWO;
-use crate::numbers::WORDS;
-use crate::numbers::put;
-use crate::out::after;
+use crate::choice::either;
+use crate::choice::either_byte;
+use crate::entry;
+use crate::entry::TABLE;
 use crate::token::EXTRA;
+use crate::token::MISSING;
 use crate::token::NOTHING;
 use crate::token::OUT_OF_RANGE;
 use crate::token::Token;
+use crate::token::UNKNOWN;
 use crate::token::byte_at;
 use crate::token::seek;
 use crate::token::token_at;
@@ -22,7 +20,8 @@ const RUN: u8 = b'r';
 
 pub(crate) const NONE: u8 = b' ';
 
-// A number, how often it stands from here on, and where reading goes on. Or what is wrong, where, and with which kind of number.
+// A number, how often it stands from here on, and where reading goes on. A negative number stands as its two's complement. Or what is wrong, where, and
+// with which kind of number.
 pub(crate) struct Found {
     pub(crate) value: usize,
     pub(crate) times: usize,
@@ -31,14 +30,33 @@ pub(crate) struct Found {
     pub(crate) kind: u8,
 }
 
-pub(crate) fn faulty(at: usize, fault: u8, kind: u8) -> Found {
-    Found {
-        value: 0,
-        times: 1,
-        at,
-        fault,
-        kind,
-    }
+// A call: its tag, how far it is read, what is wrong, with which kind of number; what it takes, in the line's order, where a buffer stands as the place
+// of the line at which it starts; and the places of its buffers of i16, of i32 and of u16 once more.
+pub(crate) struct Call {
+    pub(crate) tag: u8,
+    pub(crate) at: usize,
+    pub(crate) fault: u8,
+    pub(crate) kind: u8,
+    pub(crate) n0: usize,
+    pub(crate) n1: usize,
+    pub(crate) n2: usize,
+    pub(crate) n3: usize,
+    pub(crate) n4: usize,
+    pub(crate) n5: usize,
+    pub(crate) n6: usize,
+    pub(crate) n7: usize,
+    pub(crate) n8: usize,
+    pub(crate) n9: usize,
+    pub(crate) n10: usize,
+    pub(crate) n11: usize,
+    pub(crate) n12: usize,
+    pub(crate) n13: usize,
+    pub(crate) n14: usize,
+    pub(crate) n15: usize,
+    pub(crate) shorts: usize,
+    pub(crate) words: usize,
+    pub(crate) one: usize,
+    pub(crate) two: usize,
 }
 
 // The largest number of a kind.
@@ -48,6 +66,7 @@ fn most(kind: u8) -> usize {
         b'b' => 255,
         b'h' => 32767,
         b's' => 65535,
+        b't' => 65535,
         b'w' => 2147483647,
         LENGTH => 16384,
         _ => usize::MAX,
@@ -65,151 +84,200 @@ fn below(kind: u8) -> usize {
 
 // A number of a kind.
 fn ranged(t: Token, kind: u8, times: usize) -> Found {
-    let fits = if t.negative {
-        t.size < below(kind)
-    } else {
-        t.size <= most(kind)
-    };
-    if t.fault != NOTHING {
-        return faulty(t.from, t.fault, kind);
-    }
-    if !fits {
-        return faulty(t.from, OUT_OF_RANGE, kind);
-    }
-    let value = if t.negative {
-        std::num::wrapping_sub_usize(0, t.size)
-    } else {
-        t.size
-    };
+    let fits = (t.negative & (t.size < below(kind))) | (!t.negative & (t.size <= most(kind)));
+    let fault = either_byte(fits | (t.fault != NOTHING), t.fault, OUT_OF_RANGE);
+    let negated = std::num::wrapping_sub_usize(0, t.size);
     Found {
-        value,
+        value: either(t.negative, negated, t.size),
         times,
-        at: t.next,
-        fault: NOTHING,
+        at: either(fault == NOTHING, t.next, t.from),
+        fault,
         kind,
     }
 }
 
+// What was found, or that the number before a star is out of range.
+fn unless(bad: bool, at: usize, r: Found) -> Found {
+    if bad {
+        return Found {
+            value: 0,
+            times: 1,
+            at,
+            fault: OUT_OF_RANGE,
+            kind: RUN,
+        };
+    }
+    r
+}
+
 // A buffer's length. Of `LENGTH*V` reading goes on at LENGTH, which is then its only item.
-fn length_at(line: &[u8], at: usize) -> Found {
+pub(crate) fn length_at(line: &[u8], at: usize) -> Found {
     let t = token_at(line, at);
     let r = ranged(t, LENGTH, 1);
-    if r.fault != NOTHING || byte_at(line, r.at) != b'*' {
-        return r;
-    }
-    if r.value == 0 {
-        return faulty(t.from, OUT_OF_RANGE, RUN);
-    }
-    Found {
+    let star = t.star & (r.fault == NOTHING);
+    let length = Found {
         value: r.value,
         times: 1,
-        at: t.from,
-        fault: NOTHING,
+        at: either(star, t.from, r.at),
+        fault: r.fault,
         kind: LENGTH,
-    }
+    };
+    unless(star & (r.value == 0), t.from, length)
 }
 
 // An item of a buffer of which `left` numbers are left: V, or N*V.
 fn item_at(line: &[u8], at: usize, kind: u8, left: usize) -> Found {
     let t = token_at(line, at);
-    if t.fault != NOTHING || byte_at(line, t.next) != b'*' {
-        return ranged(t, kind, 1);
-    }
-    if t.negative || t.size == 0 || left < t.size {
-        return faulty(t.from, OUT_OF_RANGE, RUN);
-    }
-    ranged(token_at(line, after(t.next)), kind, t.size)
+    let star = t.star & (t.fault == NOTHING);
+    let bad = star & (t.negative | (t.size == 0) | (left < t.size));
+    let behind = std::num::wrapping_add_usize(t.next, 1);
+    let v = token_at(line, either(star, behind, at));
+    unless(bad, t.from, ranged(v, kind, either(star, t.size, 1)))
 }
 
 // The next number of a buffer: one that is being repeated, or the next item.
-fn next(line: &[u8], r: Found, kind: u8, left: usize) -> Found {
-    if r.fault != NOTHING {
-        return r;
-    }
+pub(crate) fn next(line: &[u8], r: Found, kind: u8, left: usize) -> Found {
     let times = r.times;
     if 1 < times {
-        return Found {
+        Found {
             value: r.value,
             times: times - 1,
             at: r.at,
             fault: r.fault,
             kind: r.kind,
-        };
-    }
-    item_at(line, r.at, kind, left)
-}
-
-// The numbers that a kind of buffer holds, and the room that it goes to.
-fn element(kind: u8) -> u8 {
-    match kind {
-        b'H' => b'h',
-        b'W' => b'w',
-        _ => b's',
-    }
-}
-
-fn room(kind: u8) -> usize {
-    match kind {
-        b'H' => SHORTS,
-        b'W' => WORDS,
-        b'S' => ONE,
-        _ => TWO,
-    }
-}
-
-fn buffer_at(line: &[u8], at: usize, kind: u8, n: &mut Numbers) -> Found {
-    let from = room(kind);
-    let item = element(kind);
-    let mut r = length_at(line, at);
-    let count = r.value;
-    put(n, from, 0, count);
-    let mut i = 0;
-    while i < count {
-        r = next(line, r, item, count - i);
-        i += 1;
-        put(n, from, i, r.value);
-    }
-    r
-}
-
-fn kind_at(table: &Table, kinds: usize, i: usize) -> u8 {
-    if kinds < 1067 {
-        if i < 16 {
-            return table[kinds + i];
         }
+    } else {
+        item_at(line, r.at, kind, left)
     }
-    NONE
 }
 
-// What stands at a place among the numbers: a number, a buffer, or nothing.
-fn part_at(line: &[u8], at: usize, kind: u8, i: usize, n: &mut Numbers) -> Found {
+// A buffer of numbers of a kind. Its value is where it starts.
+fn buffer_at(line: &[u8], at: usize, kind: u8) -> Found {
+    let mut r = length_at(line, at);
+    let mut left = r.value;
+    while 0 < left && r.fault == NOTHING {
+        r = next(line, r, kind, left);
+        left -= 1;
+    }
+    Found {
+        value: at,
+        times: 1,
+        at: r.at,
+        fault: r.fault,
+        kind: r.kind,
+    }
+}
+
+// Nothing but blanks, where no more numbers are to come.
+fn nothing_at(t: Token) -> Found {
+    Found {
+        value: 0,
+        times: 1,
+        at: t.from,
+        fault: either_byte(t.fault == MISSING, NOTHING, EXTRA),
+        kind: NONE,
+    }
+}
+
+// What stands at a place: nothing, a buffer, or a number. The letter of a buffer is the capital of its numbers'.
+fn part_at(line: &[u8], at: usize, kind: u8) -> Found {
     if kind == NONE {
-        return faulty(at, NOTHING, NONE);
+        nothing_at(token_at(line, at))
+    } else if kind < b'a' {
+        buffer_at(line, at, std::num::wrapping_add_u8(kind, 32))
+    } else {
+        ranged(token_at(line, at), kind, 1)
     }
-    if kind < b'a' {
-        return buffer_at(line, at, kind, n);
-    }
-    let r = ranged(token_at(line, at), kind, 1);
-    put(n, 0, i, r.value);
-    r
 }
 
-// Nothing but blanks may follow.
-fn ended(line: &[u8], r: Found) -> Found {
-    let at = seek(line, r.at, false);
-    if r.fault == NOTHING && at < line.len() {
-        return faulty(at, EXTRA, NONE);
+// The call with what was found at its next place. It goes to the end, and the rest moves down: once all 16 places of the table's row are read, the
+// first stands at n0.
+fn with(c: Call, r: Found, kind: u8) -> Call {
+    Call {
+        tag: c.tag,
+        at: r.at,
+        fault: r.fault,
+        kind: r.kind,
+        n0: c.n1,
+        n1: c.n2,
+        n2: c.n3,
+        n3: c.n4,
+        n4: c.n5,
+        n5: c.n6,
+        n6: c.n7,
+        n7: c.n8,
+        n8: c.n9,
+        n9: c.n10,
+        n10: c.n11,
+        n11: c.n12,
+        n12: c.n13,
+        n13: c.n14,
+        n14: c.n15,
+        n15: r.value,
+        shorts: either(kind == b'H', r.value, c.shorts),
+        words: either(kind == b'W', r.value, c.words),
+        one: either(kind == b'S', r.value, c.one),
+        two: either(kind == b'T', r.value, c.two),
     }
-    r
 }
 
-// What stands in the line from `at` on. The table says from `kinds` on what it has to be.
-pub(crate) fn read(line: &[u8], at: usize, table: &Table, kinds: usize, n: &mut Numbers) -> Found {
-    let mut r = faulty(at, NOTHING, NONE);
+// A call of which nothing is read yet.
+pub(crate) fn bare(tag: u8, at: usize, fault: u8) -> Call {
+    Call {
+        tag,
+        at,
+        fault,
+        kind: NONE,
+        n0: 0,
+        n1: 0,
+        n2: 0,
+        n3: 0,
+        n4: 0,
+        n5: 0,
+        n6: 0,
+        n7: 0,
+        n8: 0,
+        n9: 0,
+        n10: 0,
+        n11: 0,
+        n12: 0,
+        n13: 0,
+        n14: 0,
+        n15: 0,
+        shorts: 0,
+        words: 0,
+        one: 0,
+        two: 0,
+    }
+}
+
+// What the line says of a call. What it takes stands in the table from `row` on.
+fn parts(line: &[u8], table: &[u8], row: usize, call: Call) -> Call {
+    let mut c = call;
     let mut i = 0;
-    while i < 16 && r.fault == NOTHING {
-        r = part_at(line, r.at, kind_at(table, kinds, i), i, n);
+    while i < 16 && c.fault == NOTHING {
+        let kind = byte_at(table, std::num::wrapping_add_usize(row, i));
+        c = with(c, part_at(line, c.at, kind), kind);
         i += 1;
     }
-    ended(line, r)
+    c
+}
+
+// The call whose row the table has behind `at`, of which the first word is read; or none.
+fn begun(at: usize, tag: u8, from: usize, next: usize) -> Call {
+    if at < 1067 {
+        bare(tag, next, NOTHING)
+    } else {
+        bare(NONE, from, UNKNOWN)
+    }
+}
+
+// What stands in the line, whose first word starts at `from`.
+pub(crate) fn read(line: &[u8], from: usize) -> Call {
+    let table = TABLE;
+    let t = &table[..];
+    let at = entry::find(t, line, from);
+    let tag = byte_at(t, std::num::wrapping_add_usize(at, 1));
+    let c = begun(at, tag, from, seek(line, from, true));
+    parts(line, t, std::num::wrapping_add_usize(at, 3), c)
 }

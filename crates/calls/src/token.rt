@@ -1,7 +1,8 @@
 // One number as it stands in the text: blanks, a sign, digits, and then a blank, a star or the line's end.
-use crate::out::after;
+use crate::choice::either;
+use crate::choice::either_byte;
 
-// What can be wrong with a line. `fault` has the words.
+// What can be wrong with a line. `out::words` has the words.
 pub(crate) const NOTHING: u8 = b' ';
 
 pub(crate) const MISSING: u8 = b'M';
@@ -14,23 +15,31 @@ pub(crate) const EXTRA: u8 = b'E';
 
 pub(crate) const UNKNOWN: u8 = b'U';
 
-// A number's sign and size, where it stands, where reading goes on, and what is wrong with it.
+pub(crate) const LONG: u8 = b'L';
+
+// A number's sign and size, where it stands, where reading goes on, whether a star stands there, and what is wrong with it.
 pub(crate) struct Token {
     pub(crate) negative: bool,
     pub(crate) size: usize,
     pub(crate) from: usize,
     pub(crate) next: usize,
+    pub(crate) star: bool,
     pub(crate) fault: u8,
 }
 
+// Digits so far: the number, the place behind them, whether more may follow, and what is wrong: there are none, or the number has more than 64 bits.
 struct Digits {
     size: usize,
     stop: usize,
+    more: bool,
     fault: u8,
 }
 
 pub(crate) fn is_blank(b: u8) -> bool {
-    b == b' ' || b == b'\t' || b == b'\r'
+    match b {
+        b' ' | b'\t' | b'\r' => true,
+        _ => false,
+    }
 }
 
 // The byte at a place, and a blank past the end.
@@ -41,97 +50,75 @@ pub(crate) fn byte_at(line: &[u8], at: usize) -> u8 {
 // The first place from `at` on that is a blank, or that is none, as asked; or the line's end.
 pub(crate) fn seek(line: &[u8], at: usize, blank: bool) -> usize {
     let mut i = at;
-    while i < line.len() {
-        if is_blank(line[i]) == blank {
-            return i;
-        }
+    while i < line.len() && is_blank(line[i]) != blank {
         i += 1;
     }
     i
 }
 
-// The value of a digit, and 10 of any other byte.
-fn digit(b: u8) -> usize {
-    if b'0' <= b && b <= b'9' {
-        return (b - b'0') as usize;
+// Ten times a number, or 0 where that has more than 64 bits.
+fn tens(size: usize) -> usize {
+    if size <= 1844674407370955161 {
+        size * 10
+    } else {
+        0
     }
-    10
 }
 
-enum Longer {
-    Fits(usize),
-    Large,
-}
-
-// A number with one digit more, where 64 bits hold it.
-fn with_digit(size: usize, d: usize) -> Longer {
-    if size < 1844674407370955161 {
-        if d < 10 {
-            return Longer::Fits(size * 10 + d);
-        }
-    } else if size == 1844674407370955161 {
-        if d < 6 {
-            return Longer::Fits(18446744073709551610 + d);
-        }
+// One byte more.
+fn longer(d: Digits, b: u8) -> Digits {
+    let v = std::num::wrapping_sub_u8(b, b'0') as usize;
+    let more = v <= 9;
+    let least = tens(d.size);
+    let size = std::num::wrapping_add_usize(least, v);
+    let large = (1844674407370955161 < d.size) | (size < least) | (d.fault == OUT_OF_RANGE);
+    let fault = either_byte(large, OUT_OF_RANGE, NOTHING);
+    Digits {
+        size: either(more, size, d.size),
+        stop: std::num::wrapping_add_usize(d.stop, more as usize),
+        more,
+        fault: either_byte(more, fault, d.fault),
     }
-    Longer::Large
 }
 
-// The digits from `at` on. The fault: the number has more than 64 bits.
 fn digits_at(line: &[u8], at: usize) -> Digits {
-    let mut size = 0;
-    let mut fault = NOTHING;
+    let mut d = Digits {
+        size: 0,
+        stop: at,
+        more: true,
+        fault: NOT_A_NUMBER,
+    };
     let mut i = at;
-    while i < line.len() {
-        let d = digit(line[i]);
-        if 9 < d {
-            break;
-        }
-        match with_digit(size, d) {
-            Longer::Fits(n) => {
-                size = n;
-            }
-            Longer::Large => {
-                fault = OUT_OF_RANGE;
-            }
-        }
+    while i < line.len() && d.more {
+        d = longer(d, line[i]);
         i += 1;
     }
-    Digits {
-        size,
-        stop: i,
-        fault,
-    }
+    d
 }
 
-// Whether a number may end before this byte.
-fn ends(b: u8) -> bool {
-    is_blank(b) || b == b'*'
-}
-
-// What is wrong with a number that stands at `from` and has these digits from `first` on.
-fn judged(line: &[u8], from: usize, first: usize, d: Digits) -> u8 {
-    if line.len() <= from {
-        return MISSING;
+// What is wrong with a number, by its first byte, the one behind it, and what is wrong with its digits.
+fn judged(first: u8, behind: u8, fault: u8) -> u8 {
+    match first {
+        b' ' => MISSING,
+        _ => match behind {
+            b' ' | b'\t' | b'\r' | b'*' => fault,
+            _ => NOT_A_NUMBER,
+        },
     }
-    if d.stop != first {
-        if ends(byte_at(line, d.stop)) {
-            return d.fault;
-        }
-    }
-    NOT_A_NUMBER
 }
 
 pub(crate) fn token_at(line: &[u8], at: usize) -> Token {
     let from = seek(line, at, false);
-    let negative = byte_at(line, from) == b'-';
-    let first = if negative { after(from) } else { from };
-    let d = digits_at(line, first);
+    let first = byte_at(line, from);
+    let negative = first == b'-';
+    let d = digits_at(line, std::num::wrapping_add_usize(from, negative as usize));
+    let behind = byte_at(line, d.stop);
     Token {
         negative,
         size: d.size,
         from,
         next: d.stop,
-        fault: judged(line, from, first, d),
+        star: behind == b'*',
+        fault: judged(first, behind, d.fault),
     }
 }

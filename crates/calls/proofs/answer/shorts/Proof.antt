@@ -6,13 +6,13 @@ use Rattle.calls.proofs.answer.shorts.Statement.{statement}
 use Rattle.calls.proofs.answer.shorts.Tie as tie
 
 abbrev Inv-loop : tie.InvT-loop
-Inv-loop out₀ used s n₀ i₀ out n i = Unit {0}
+Inv-loop s i₀ i = Unit {0}
 
 abbrev μ-loop : tie.MeasureT-loop
-μ-loop out₀ used s n₀ i₀ out n i = length s - i
+μ-loop s i₀ i = length s - i
 
-item-requires : tie.Need-item-requires Inv-loop μ-loop
-item-requires c κs = search needs
+words-requires : tie.Need-words-requires Inv-loop μ-loop
+words-requires c κs = search needs
 
 loop-holds : tie.Need-loop-holds Inv-loop μ-loop
 loop-holds c = search needs
@@ -26,8 +26,8 @@ shared-slice-copy-out-wide-16 c = search needs
 wide-16-requires : tie.Need-wide-16-requires Inv-loop μ-loop
 wide-16-requires c κs = search needs
 
-number-requires : tie.Need-number-requires Inv-loop μ-loop
-number-requires c κs = search needs
+signed-requires : tie.Need-signed-requires Inv-loop μ-loop
+signed-requires c κs = search needs
 
 add-i : tie.Need-add-i Inv-loop μ-loop
 add-i c = search needs
@@ -47,12 +47,12 @@ shorts-spec =
     (tie.spec
     Inv-loop
     μ-loop
-    item-requires
+    words-requires
     loop-holds
     mul-wide-16
     shared-slice-copy-out-wide-16
     wide-16-requires
-    number-requires
+    signed-requires
     add-i
     loop-less
     loop-again

@@ -5,16 +5,16 @@ use Rattle.calls.proofs.entry.forms.Statement.{statement}
 use Rattle.calls.proofs.entry.forms.Tie as tie
 
 abbrev Inv-loop : tie.InvT-loop
-Inv-loop out₀ used table n₀ tag₀ out n tag = Unit {0}
+Inv-loop tag₀ tag = Unit {0}
 
 abbrev μ-loop : tie.MeasureT-loop
-μ-loop out₀ used table n₀ tag₀ out n tag = 111 - tag
+μ-loop tag₀ tag = 111 - tag
 
 loop-holds : tie.Need-loop-holds Inv-loop μ-loop
 loop-holds c = search needs
 
-row-requires : tie.Need-row-requires Inv-loop μ-loop
-row-requires c κs = search needs
+form-requires : tie.Need-form-requires Inv-loop μ-loop
+form-requires c κs = search needs
 
 byte-requires : tie.Need-byte-requires Inv-loop μ-loop
 byte-requires c κs = search needs
@@ -38,7 +38,7 @@ forms-spec =
     Inv-loop
     μ-loop
     loop-holds
-    row-requires
+    form-requires
     byte-requires
     add-tag
     loop-less

@@ -4,10 +4,10 @@ use Rattle.calls.proofs.input.replay.Statement.{statement}
 use Rattle.calls.proofs.input.replay.Tie as tie
 
 abbrev Inv-loop : tie.InvT-loop
-Inv-loop fd name text₀ out₀ s₀ turns₀ text out s turns = Unit {0}
+Inv-loop fd name text₀ s₀ turns₀ text s turns = Unit {0}
 
 abbrev μ-loop : tie.MeasureT-loop
-μ-loop fd name text₀ out₀ s₀ turns₀ text out s turns = turns
+μ-loop fd name text₀ s₀ turns₀ text s turns = turns
 
 loop-holds : tie.Need-loop-holds Inv-loop μ-loop
 loop-holds c = search needs
@@ -27,9 +27,6 @@ loop-again c = search needs
 rest-requires : tie.Need-rest-requires Inv-loop μ-loop
 rest-requires c κs = search needs
 
-flush-requires : tie.Need-flush-requires Inv-loop μ-loop
-flush-requires c κs = search needs
-
 returns : tie.Need-returns Inv-loop μ-loop
 returns c = search needs
 
@@ -45,5 +42,4 @@ replay-spec =
     loop-less
     loop-again
     rest-requires
-    flush-requires
     returns)

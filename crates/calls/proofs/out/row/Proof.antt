@@ -6,22 +6,19 @@ use Rattle.calls.proofs.out.row.Statement.{statement}
 use Rattle.calls.proofs.out.row.Tie as tie
 
 abbrev Inv-loop : tie.InvT-loop
-Inv-loop out₀ used s tag column n₀ first₀ at₀ i₀ out n first at i = Unit {0}
+Inv-loop s tag column r₀ i₀ r i = Unit {0}
 
 abbrev μ-loop : tie.MeasureT-loop
-μ-loop out₀ used s tag column n₀ first₀ at₀ i₀ out n first at i = length s - i
+μ-loop s tag column r₀ i₀ r i = length s - i
 
 loop-holds : tie.Need-loop-holds Inv-loop μ-loop
 loop-holds c = search needs
 
-shared-slice-read-b : tie.Need-shared-slice-read-b Inv-loop μ-loop
-shared-slice-read-b c = search needs
+shared-slice-read-passed : tie.Need-shared-slice-read-passed Inv-loop μ-loop
+shared-slice-read-passed c = search needs
 
-after-requires : tie.Need-after-requires Inv-loop μ-loop
-after-requires c κs = search needs
-
-byte-requires : tie.Need-byte-requires Inv-loop μ-loop
-byte-requires c κs = search needs
+passed-requires : tie.Need-passed-requires Inv-loop μ-loop
+passed-requires c κs = search needs
 
 add-i : tie.Need-add-i Inv-loop μ-loop
 add-i c = search needs
@@ -42,9 +39,8 @@ row-spec =
     Inv-loop
     μ-loop
     loop-holds
-    shared-slice-read-b
-    after-requires
-    byte-requires
+    shared-slice-read-passed
+    passed-requires
     add-i
     loop-less
     loop-again

@@ -6,28 +6,19 @@ use Rattle.calls.proofs.token.digits_at.Statement.{statement}
 use Rattle.calls.proofs.token.digits_at.Tie as tie
 
 abbrev Inv-loop : tie.InvT-loop
-Inv-loop line at size₀ fault₀ i₀ size fault i = Unit {0}
+Inv-loop line at d₀ i₀ d i = Unit {0}
 
 abbrev μ-loop : tie.MeasureT-loop
-μ-loop line at size₀ fault₀ i₀ size fault i = length line - i
+μ-loop line at d₀ i₀ d i = length line - i
 
 loop-holds : tie.Need-loop-holds Inv-loop μ-loop
 loop-holds c = search needs
 
-shared-slice-read-digit : tie.Need-shared-slice-read-digit Inv-loop μ-loop
-shared-slice-read-digit c = search needs
+shared-slice-read-longer : tie.Need-shared-slice-read-longer Inv-loop μ-loop
+shared-slice-read-longer c = search needs
 
-digit-requires : tie.Need-digit-requires Inv-loop μ-loop
-digit-requires c κs = search needs
-
-with-digit-requires : tie.Need-with-digit-requires Inv-loop μ-loop
-with-digit-requires c κs = search needs
-
-enum-known-n : tie.Need-enum-known-n Inv-loop μ-loop
-enum-known-n c = search needs
-
-enum-told : tie.Need-enum-told Inv-loop μ-loop
-enum-told c = search needs
+longer-requires : tie.Need-longer-requires Inv-loop μ-loop
+longer-requires c κs = search needs
 
 add-i : tie.Need-add-i Inv-loop μ-loop
 add-i c = search needs
@@ -51,11 +42,8 @@ digits-at-spec =
     Inv-loop
     μ-loop
     loop-holds
-    shared-slice-read-digit
-    digit-requires
-    with-digit-requires
-    enum-known-n
-    enum-told
+    shared-slice-read-longer
+    longer-requires
     add-i
     loop-less
     loop-again

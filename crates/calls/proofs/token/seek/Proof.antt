@@ -20,9 +20,6 @@ shared-slice-read-is-blank c = search needs
 is-blank-requires : tie.Need-is-blank-requires Inv-loop μ-loop
 is-blank-requires c κs = search needs
 
-returns : tie.Need-returns Inv-loop μ-loop
-returns c = search needs
-
 add-i : tie.Need-add-i Inv-loop μ-loop
 add-i c = search needs
 
@@ -31,6 +28,9 @@ loop-less c = search needs
 
 loop-again : tie.Need-loop-again Inv-loop μ-loop
 loop-again c = search needs
+
+returns : tie.Need-returns Inv-loop μ-loop
+returns c = search needs
 
 returns-2 : tie.Need-returns-2 Inv-loop μ-loop
 returns-2 c = search needs
@@ -44,8 +44,8 @@ seek-spec =
     loop-holds
     shared-slice-read-is-blank
     is-blank-requires
-    returns
     add-i
     loop-less
     loop-again
+    returns
     returns-2)

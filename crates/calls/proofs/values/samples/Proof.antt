@@ -1,28 +1,31 @@
--- `calls::numbers::samples` meets its contract: what is written keeps its length, and the numbers that are left are the measure. Assumes nothing.
+-- `calls::values::samples` meets its contract: what is written keeps its length, and the numbers that are left are the measure. Assumes nothing.
 use mathlib.Core.Path.{_≡_}
 use borrow.Author.Needs.{needs}
 use Prim.Native.Nat.{_-_}
 use lib.ListN.{length}
-use Rattle.calls.proofs.numbers.samples.Statement.{statement}
-use Rattle.calls.proofs.numbers.samples.Tie as tie
+use Rattle.calls.proofs.values.samples.Statement.{statement}
+use Rattle.calls.proofs.values.samples.Tie as tie
 
 abbrev Inv-loop : tie.InvT-loop
-Inv-loop n room to₀ count i₀ to i = length to ≡ length to₀
+Inv-loop line at to₀ r₀ count i₀ to r i = length to ≡ length to₀
 
 abbrev μ-loop : tie.MeasureT-loop
-μ-loop n room to₀ count i₀ to i = count - i
+μ-loop line at to₀ r₀ count i₀ to r i = count - i
 
-count-of-requires : tie.Need-count-of-requires Inv-loop μ-loop
-count-of-requires c κs = search needs
+length-at-requires : tie.Need-length-at-requires Inv-loop μ-loop
+length-at-requires c κs = search needs
+
+least-requires : tie.Need-least-requires Inv-loop μ-loop
+least-requires c κs = search needs
 
 loop-holds : tie.Need-loop-holds Inv-loop μ-loop
 loop-holds c = search needs
 
-item-requires : tie.Need-item-requires Inv-loop μ-loop
-item-requires c κs = search needs
+next-requires : tie.Need-next-requires Inv-loop μ-loop
+next-requires c κs = search needs
 
-sample-of-requires : tie.Need-sample-of-requires Inv-loop μ-loop
-sample-of-requires c κs = search needs
+sample-requires : tie.Need-sample-requires Inv-loop μ-loop
+sample-requires c κs = search needs
 
 mul-to : tie.Need-mul-to Inv-loop μ-loop
 mul-to c = search needs
@@ -51,10 +54,11 @@ samples-spec =
     (tie.spec
     Inv-loop
     μ-loop
-    count-of-requires
+    length-at-requires
+    least-requires
     loop-holds
-    item-requires
-    sample-of-requires
+    next-requires
+    sample-requires
     mul-to
     slice-write-to
     add-i

@@ -1,31 +1,34 @@
--- `calls::numbers::words` meets its contract: what is written keeps its length, and the numbers that are left are the measure. Assumes nothing.
+-- `calls::values::words` meets its contract: what is written keeps its length, and the numbers that are left are the measure. Assumes nothing.
 use mathlib.Core.Path.{_≡_}
 use borrow.Author.Needs.{needs}
 use Prim.Native.Nat.{_-_}
 use lib.ListN.{length}
-use Rattle.calls.proofs.numbers.words.Statement.{statement}
-use Rattle.calls.proofs.numbers.words.Tie as tie
+use Rattle.calls.proofs.values.words.Statement.{statement}
+use Rattle.calls.proofs.values.words.Tie as tie
 
 abbrev Inv-loop : tie.InvT-loop
-Inv-loop n to₀ count i₀ to i = length to ≡ length to₀
+Inv-loop line at to₀ r₀ count i₀ to r i = length to ≡ length to₀
 
 abbrev μ-loop : tie.MeasureT-loop
-μ-loop n to₀ count i₀ to i = count - i
+μ-loop line at to₀ r₀ count i₀ to r i = count - i
 
-count-of-requires : tie.Need-count-of-requires Inv-loop μ-loop
-count-of-requires c κs = search needs
+length-at-requires : tie.Need-length-at-requires Inv-loop μ-loop
+length-at-requires c κs = search needs
+
+least-requires : tie.Need-least-requires Inv-loop μ-loop
+least-requires c κs = search needs
 
 loop-holds : tie.Need-loop-holds Inv-loop μ-loop
 loop-holds c = search needs
 
-item-requires : tie.Need-item-requires Inv-loop μ-loop
-item-requires c κs = search needs
+next-requires : tie.Need-next-requires Inv-loop μ-loop
+next-requires c κs = search needs
 
-word-of-requires : tie.Need-word-of-requires Inv-loop μ-loop
-word-of-requires c κs = search needs
+word-requires : tie.Need-word-requires Inv-loop μ-loop
+word-requires c κs = search needs
 
-mul-t9 : tie.Need-mul-t9 Inv-loop μ-loop
-mul-t9 c = search needs
+mul-t10 : tie.Need-mul-t10 Inv-loop μ-loop
+mul-t10 c = search needs
 
 slice-set-from-to : tie.Need-slice-set-from-to Inv-loop μ-loop
 slice-set-from-to c = search needs
@@ -51,11 +54,12 @@ words-spec =
     (tie.spec
     Inv-loop
     μ-loop
-    count-of-requires
+    length-at-requires
+    least-requires
     loop-holds
-    item-requires
-    word-of-requires
-    mul-t9
+    next-requires
+    word-requires
+    mul-t10
     slice-set-from-to
     add-i
     loop-less

@@ -1,18 +1,18 @@
--- `calls::answer::words` is safe and ends: the numbers that are left are the measure. Assumes nothing.
+-- `calls::answer::longs` is safe and ends: the numbers that are left are the measure. Assumes nothing.
 use borrow.Author.Needs.{needs}
 use Prim.Native.Nat.{_-_}
 use lib.ListN.{length}
-use Rattle.calls.proofs.answer.words.Statement.{statement}
-use Rattle.calls.proofs.answer.words.Tie as tie
+use Rattle.calls.proofs.answer.longs.Statement.{statement}
+use Rattle.calls.proofs.answer.longs.Tie as tie
 
 abbrev Inv-loop : tie.InvT-loop
-Inv-loop out₀ used s n₀ i₀ out n i = Unit {0}
+Inv-loop s i₀ i = Unit {0}
 
 abbrev μ-loop : tie.MeasureT-loop
-μ-loop out₀ used s n₀ i₀ out n i = length s - i
+μ-loop s i₀ i = length s - i
 
-item-requires : tie.Need-item-requires Inv-loop μ-loop
-item-requires c κs = search needs
+words-requires : tie.Need-words-requires Inv-loop μ-loop
+words-requires c κs = search needs
 
 loop-holds : tie.Need-loop-holds Inv-loop μ-loop
 loop-holds c = search needs
@@ -26,8 +26,8 @@ shared-slice-copy-out-wide-32 c = search needs
 wide-32-requires : tie.Need-wide-32-requires Inv-loop μ-loop
 wide-32-requires c κs = search needs
 
-number-requires : tie.Need-number-requires Inv-loop μ-loop
-number-requires c κs = search needs
+signed-requires : tie.Need-signed-requires Inv-loop μ-loop
+signed-requires c κs = search needs
 
 add-i : tie.Need-add-i Inv-loop μ-loop
 add-i c = search needs
@@ -41,18 +41,18 @@ loop-again c = search needs
 returns : tie.Need-returns Inv-loop μ-loop
 returns c = search needs
 
-pub words-spec : {M : Type 1} → statement M
-words-spec =
+pub longs-spec : {M : Type 1} → statement M
+longs-spec =
     tie.close
     (tie.spec
     Inv-loop
     μ-loop
-    item-requires
+    words-requires
     loop-holds
     mul-wide-32
     shared-slice-copy-out-wide-32
     wide-32-requires
-    number-requires
+    signed-requires
     add-i
     loop-less
     loop-again

@@ -1,4 +1,4 @@
--- `calls::sign::magnitude` is safe: -1 - v is not negative where v is, and what is one more fits 64 bits. Assumes nothing.
+-- `calls::out::magnitude` is safe: -1 - v is not negative where v is, and what is one more fits 64 bits. Assumes nothing.
 use borrow.Author.Needs.{needs}
 use mathlib.Core.Path.{_≡_, ap, _∙_}
 use mathlib.Core.Bool.{Bool, true, false, cond}
@@ -13,8 +13,8 @@ use mir.Facts.{toZ-ofZ}
 use borrow.Author.Tests.{le-ltb}
 use Rattle.integers.proofs.Order.{signed}
 use Rattle.integers.proofs.Bits.{lt-held, lt-failed}
-use Rattle.calls.proofs.sign.magnitude.Statement.{statement}
-use Rattle.calls.proofs.sign.magnitude.Tie as tie
+use Rattle.calls.proofs.out.magnitude.Statement.{statement}
+use Rattle.calls.proofs.out.magnitude.Tie as tie
 
 -- of a negative number that fits
 record Less (z : ℤ) : Type 0 where

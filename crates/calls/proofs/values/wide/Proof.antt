@@ -1,4 +1,4 @@
--- `calls::numbers::word_of` is safe: at most the largest i32, a number and one less than its negation fit 64 bits. Assumes nothing.
+-- `calls::values::wide` is safe: at most the largest i32, a number and one less than its negation fit 64 bits. Assumes nothing.
 use borrow.Author.Needs.{needs}
 use mathlib.Core.List.{[], _∷_}
 use Prim.Native.Nat.{_-_}
@@ -6,8 +6,8 @@ use native.Mathlib.Omega.{arith}
 use lib.IntN.{negsuc}
 use mir.Syntax.{w64}
 use Rattle.integers.proofs.Expr.{env, nat, var, lit, sub, fit}
-use Rattle.calls.proofs.numbers.word_of.Statement.{statement}
-use Rattle.calls.proofs.numbers.word_of.Tie as tie
+use Rattle.calls.proofs.values.wide.Statement.{statement}
+use Rattle.calls.proofs.values.wide.Tie as tie
 
 cast-result : tie.Need-cast-result
 cast-result c = search needs
@@ -18,16 +18,13 @@ returns c = search needs
 sub-less : tie.Need-sub-less
 sub-less c = search needs
 
-cast-clip32 : tie.Need-cast-clip32
-cast-clip32 c = search needs
+cast-result-2 : tie.Need-cast-result-2
+cast-result-2 c = search needs
 
-sub-clip32 : tie.Need-sub-clip32
-sub-clip32 c =
+sub-result : tie.Need-sub-result
+sub-result c =
     let less = 18446744073709551615 - c .before .before .args .v in
     fit (env (nat w64 less 2147483647 (omega arith) tt ∷ [])) w64 (sub (lit (negsuc 0)) (var 0)) tt
-
-clip32-requires : tie.Need-clip32-requires
-clip32-requires c κs = search needs
 
 returns-2 : tie.Need-returns-2
 returns-2 c = search needs
@@ -35,15 +32,14 @@ returns-2 c = search needs
 returns-3 : tie.Need-returns-3
 returns-3 c = search needs
 
-pub word-of-spec : {M : Type 1} → statement M
-word-of-spec =
+pub wide-spec : {M : Type 1} → statement M
+wide-spec =
     tie.close
     (tie.spec
     cast-result
     returns
     sub-less
-    cast-clip32
-    sub-clip32
-    clip32-requires
+    cast-result-2
+    sub-result
     returns-2
     returns-3)
