@@ -7,18 +7,13 @@ use evc::Scale;
 use evc::SquaredDistortion;
 use evc::SubAnswer;
 
-// A refusal by its number, or 0.
-fn named(number: u8) {
-    words(std::num::wrapping_add_u8(b'0', number));
-}
-
 fn value(v: i64) {
     words(b'v');
     signed(v);
 }
 
 pub(crate) fn call(a: Answer) {
-    named(numbers::answer_number(a));
+    words(std::num::wrapping_add_u8(b'0', numbers::answer_number(a)));
 }
 
 fn wide_16(v: i16) -> i64 {
@@ -53,7 +48,8 @@ pub(crate) fn squared(a: SquaredDistortion) {
 // A refusal names its component: the letters from A on stand for it among the words, and none for the number that it has where nothing is refused.
 pub(crate) fn sub_block(a: SubAnswer) {
     let mut component = 9;
-    named(numbers::tell_sub_block(a, &mut component));
+    let number = numbers::tell_sub_block(a, &mut component);
+    words(std::num::wrapping_add_u8(b'0', number));
     words(std::num::wrapping_add_u8(b'A', component));
 }
 

@@ -25,9 +25,10 @@ fn diff(c: Call, org: &[u16], cur: &[u16], diff: &mut [i16]) {
     answer::shorts(diff);
 }
 
-// The calls that write nothing.
+// The calls that write nothing. Four of them have the depth at the same place.
 fn measured(c: Call, bi: &[i16], one: &[u16], two: &[u16]) {
     let tag = c.tag;
+    let depth = byte(c.n7);
     match tag {
         b'h' => distortion(satd::evce_satd_16b(
             one,
@@ -39,7 +40,7 @@ fn measured(c: Call, bi: &[i16], one: &[u16], two: &[u16]) {
             c.n5,
             c.n6,
             two,
-            byte(c.n7),
+            depth,
         )),
         b'i' => squared(ssd::evce_ssd_16b(
             one,
@@ -51,7 +52,7 @@ fn measured(c: Call, bi: &[i16], one: &[u16], two: &[u16]) {
             c.n5,
             c.n6,
             two,
-            byte(c.n7),
+            depth,
         )),
         b'j' => squared(ssd::evce_ssd_16i(
             one,
@@ -95,7 +96,7 @@ fn measured(c: Call, bi: &[i16], one: &[u16], two: &[u16]) {
             short(c.n4),
             c.n5,
             c.n6,
-            byte(c.n7),
+            depth,
         )),
         b'm' => distortion(sad::evce_sad_16i(
             one,
@@ -107,7 +108,7 @@ fn measured(c: Call, bi: &[i16], one: &[u16], two: &[u16]) {
             c.n5,
             c.n6,
             two,
-            byte(c.n7),
+            depth,
         )),
         _ => distortion(bi::evce_sad_bi_16i(bi, one, c.n0, c.n1, byte(c.n2))),
     }

@@ -1,6 +1,6 @@
 // The calls: how each is known here, what it takes, and how it is written. Of what it takes: n a number of 64 bits, b a byte, f a flag, w an i32,
 // h an i16; and the buffers H of i16, W of i32, S and T of u16.
-use crate::out::byte;
+use crate::out::end;
 use crate::out::row;
 use crate::out::text;
 use crate::token::byte_at;
@@ -61,7 +61,7 @@ fn forms() {
     let mut tag = b'a';
     while tag <= b'n' {
         form(tag, 18);
-        byte(b'\n');
+        end();
         tag += 1;
     }
 }

@@ -1,6 +1,6 @@
 // What is said of a line that is no call, and of an input that can't be read. It goes where the answer would stand.
 use crate::entry::form;
-use crate::out::byte;
+use crate::out::end;
 use crate::out::number;
 use crate::out::text;
 use crate::out::words;
@@ -38,7 +38,7 @@ pub(crate) fn malformed(name: &[u8], row: u64, c: Call) {
     input(name);
     place(row, c.at);
     what(c);
-    byte(b'\n');
+    end();
 }
 
 // An input that can't be read.
@@ -48,5 +48,5 @@ pub(crate) fn unread(name: &[u8]) {
     if name.len() == 0 {
         words(b'a');
     }
-    byte(b'\n');
+    end();
 }

@@ -90,7 +90,7 @@ fn turn(fd: i32, name: &[u8], text: &mut Text, s: State) -> State {
 fn rest(text: &Text, name: &[u8], s: State) {
     if s.empty {
         entry::usage();
-        out::byte(b'\n');
+        out::end();
     } else {
         answered(text, name, s);
     }

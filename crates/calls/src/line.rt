@@ -3,7 +3,7 @@ use crate::answer;
 use crate::distortions;
 use crate::entry;
 use crate::fault;
-use crate::out::byte;
+use crate::out::end;
 use crate::out::text;
 use crate::read::Call;
 use crate::read::read;
@@ -33,7 +33,7 @@ fn made(line: &[u8], c: Call) {
         b'a' => answer::scale(scaling::scale(values::byte(c.n0))),
         _ => buffered(line, c),
     }
-    byte(b'\n');
+    end();
 }
 
 fn called(line: &[u8], from: usize, name: &[u8], row: u64) {
@@ -52,7 +52,7 @@ pub(crate) fn answered(line: &[u8], name: &[u8], row: u64) {
         b' ' => {}
         b'#' => {
             text(line);
-            byte(b'\n');
+            end();
         }
         _ => called(line, from, name, row),
     }

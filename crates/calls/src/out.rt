@@ -1,10 +1,16 @@
-// Standard output, piece by piece. Nothing is kept back, so that no function has to be handed a buffer to say something.
+// Standard output, piece by piece. Nothing is kept back, so that no function has to be handed a buffer to say something. What can't be written is told
+// once a line, at its end.
 use crate::choice::either;
 use crate::choice::either_byte;
 use libc::STDOUT_FILENO;
 
 pub(crate) fn text(s: &[u8]) {
-    if !io::write_all(STDOUT_FILENO, s) {
+    io::write_all(STDOUT_FILENO, s);
+}
+
+// The end of a line.
+pub(crate) fn end() {
+    if !io::write_all(STDOUT_FILENO, b"\n") {
         os::fail(b"standard output");
     }
 }
@@ -13,7 +19,7 @@ pub(crate) fn byte(b: u8) {
     text(&[b]);
 }
 
-// In decimal. Where it can't be written, what follows it can't be either, and says so.
+// In decimal.
 pub(crate) fn number(v: u64) {
     io::print_decimal(STDOUT_FILENO, v);
 }

@@ -16,8 +16,8 @@ loop-holds c = search needs
 form-requires : tie.Need-form-requires Inv-loop μ-loop
 form-requires c κs = search needs
 
-byte-requires : tie.Need-byte-requires Inv-loop μ-loop
-byte-requires c κs = search needs
+end-requires : tie.Need-end-requires Inv-loop μ-loop
+end-requires c κs = search needs
 
 add-tag : tie.Need-add-tag Inv-loop μ-loop
 add-tag c = search needs
@@ -39,7 +39,7 @@ forms-spec =
     μ-loop
     loop-holds
     form-requires
-    byte-requires
+    end-requires
     add-tag
     loop-less
     loop-again
