@@ -74,6 +74,20 @@ fn twos64(src: &[i32], dst: &mut [i16], l: usize, shift: u8)
     }
 }
 
+// The same. It calls `twos64` in two places, since compilers inline what has one caller: the arrays of 4096 bytes would stand side by side in the
+// caller's memory, a line of `itx` would have its inputs in the one and its sums in the other, and a processor that takes places 4096 bytes apart for the
+// same place would make each load wait for a store.
+fn all64(src: &[i32], dst: &mut [i16], l: usize, shift: u8)
+    requires { ⌜ (shift ≤ 31) × (Rooms (now src) (now dst) 64 l × (l % 16 ≡ 0)) ⌝ }
+    ensures { λ _. ⌜ now (dst .exit) ≡ written (64 * l) (stageTwoAt (tm 64) 64 l shift (now (src .entry))) (now (dst .entry)) ⌝ }
+{
+    if l == 64 {
+        twos64(src, dst, 64, shift);
+    } else {
+        twos64(src, dst, l, shift);
+    }
+}
+
 // Stage two of size 2^log2_size on 2^log2_line lines, where the size is 32 or 64, the lines are 16 or more, and no test is broken; whether that
 // is so.
 pub fn itxb1(src: &[i32], dst: &mut [i16], log2_size: usize, log2_line: usize, shift: u8) -> bool
@@ -85,7 +99,7 @@ pub fn itxb1(src: &[i32], dst: &mut [i16], log2_size: usize, log2_line: usize, s
         if log2_size == 5 {
             twos32(src, dst, l, shift);
         } else {
-            twos64(src, dst, l, shift);
+            all64(src, dst, l, shift);
         }
         return true;
     }

@@ -42,8 +42,8 @@ shl-l c = omega (arith, known c .line-most)
 twos32-requires : tie.Need-twos32-requires
 twos32-requires c κs = let w = known (c .before .before) in (w .shift-most, (sized-rooms _ 5 (c .before .if2 .taken) (call-rooms w), blocks w))
 
-twos64-requires : tie.Need-twos64-requires
-twos64-requires c κs = let w = known (c .before .before) in (w .shift-most, (sized-rooms _ 6 (omega (arith, w .size-least, w .size-most, c .before .if2 .left)) (call-rooms w), blocks w))
+all64-requires : tie.Need-all64-requires
+all64-requires c κs = let w = known (c .before .before) in (w .shift-most, (sized-rooms _ 6 (omega (arith, w .size-least, w .size-most, c .before .if2 .left)) (call-rooms w), blocks w))
 
 same-length : tie.Need-same-length
 same-length c = search needs
@@ -62,7 +62,7 @@ returns-2 c =
     let d = c .before .before .before .before in
     let w = known d in
     two-did 5 6 4 (s d .args .log2-size) (s d .args .log2-line) (s d .args .src .now) (s d .args .dst .now) (s d .args .shift) (guard d)
-    (sized-end (left d) (s d .args .dst .now) (l d) (s d .args .log2-size) 6 (omega (arith, w .size-least, w .size-most, c .before .before .before .if2 .left)) (c .before .twos64 .ensures))
+    (sized-end (left d) (s d .args .dst .now) (l d) (s d .args .log2-size) 6 (omega (arith, w .size-least, w .size-most, c .before .before .before .if2 .left)) (c .before .all64 .ensures))
 
 returns-3 : tie.Need-returns-3
 returns-3 c =
@@ -76,7 +76,7 @@ itxb1-spec =
     mine-requires
     shl-l
     twos32-requires
-    twos64-requires
+    all64-requires
     same-length
     returns
     same-length-2
