@@ -74,17 +74,17 @@ fn twos64(src: &[i32], dst: &mut [i16], l: usize, shift: u8)
     }
 }
 
-// The same. It calls `twos64` in two places, since compilers inline what has one caller: the arrays of 4096 bytes would stand side by side in the
-// caller's memory, a line of `itx` would have its inputs in the one and its sums in the other, and a processor that takes places 4096 bytes apart for the
-// same place would make each load wait for a store.
+// The same. It calls `twos64` in two places, with a slice each, so that compilers keep it a function of its own: where they inline it, its arrays of 4096
+// bytes stand side by side in the caller's memory, a line of `itx` gets its inputs in the one and its sums in the other, and a processor, which takes
+// places 4096 bytes apart for the same place, has each load wait for a store.
 fn all64(src: &[i32], dst: &mut [i16], l: usize, shift: u8)
     requires { ⌜ (shift ≤ 31) × (Rooms (now src) (now dst) 64 l × (l % 16 ≡ 0)) ⌝ }
     ensures { λ _. ⌜ now (dst .exit) ≡ written (64 * l) (stageTwoAt (tm 64) 64 l shift (now (src .entry))) (now (dst .entry)) ⌝ }
 {
     if l == 64 {
-        twos64(src, dst, 64, shift);
+        twos64(&src[..], dst, 64, shift);
     } else {
-        twos64(src, dst, l, shift);
+        twos64(&src[..], dst, l, shift);
     }
 }
 
