@@ -11,8 +11,8 @@ ghost use Rattle.both.specs.Both.{through, bothExit};
 fn stages_over(part: &mut [i16], between: &mut [i32], logw: usize, logh: usize, shift: u8)
     ensures { λ _. ⌜ now (part .exit) ≡ itxb1Exit logw logh shift (itxb0Exit logh logw (now (part .entry)) (now (between .entry))) (now (part .entry)) ⌝ }
 {
-    stages::itxb0(&part[..], &mut between[..], logh, logw);
-    stages::itxb1(&between[..], &mut part[..], logw, logh, shift);
+    stagesb0::itxb0(&part[..], &mut between[..], logh, logw);
+    stagesb1::itxb1(&between[..], &mut part[..], logw, logh, shift);
 }
 
 // The block between the stages is as long as the area: cut from the smallest of four that is enough. The two large ones have a function each, so

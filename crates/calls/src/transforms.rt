@@ -43,8 +43,8 @@ fn called(c: Call, shorts: &mut [i16], words: &mut [i32]) -> Answer {
     let tag = c.tag;
     match tag {
         b'b' => dquant::evc_dquant(shorts, c.n0, c.n1, word(c.n2), word(c.n3), byte(c.n4)),
-        b'c' => stages::itxb0(shorts, words, c.n0, c.n1),
-        b'd' => stages::itxb1(words, shorts, c.n0, c.n1, byte(c.n2)),
+        b'c' => stagesb0::itxb0(shorts, words, c.n0, c.n1),
+        b'd' => stagesb1::itxb1(words, shorts, c.n0, c.n1, byte(c.n2)),
         _ => job(c, shorts),
     }
 }

@@ -27,7 +27,7 @@ pub extern "C" fn tv_itxb0(src: &[i16], dst: &mut [i32], log2_size: usize, log2_
     ensures number { λ r. ⌜ r ≡ stageOneNumber (length (now (src .entry))) (length (now (dst .entry))) «log2_size» «log2_line» ⌝ }
     ensures exit { λ r. ⌜ now (dst .exit) ≡ itxb0Exit «log2_size» «log2_line» (now (src .entry)) (now (dst .entry)) ⌝ }
 {
-    answer_number(stages::itxb0(src, dst, log2_size, log2_line))
+    answer_number(stagesb0::itxb0(src, dst, log2_size, log2_line))
 }
 
 #[no_mangle]
@@ -41,7 +41,7 @@ pub extern "C" fn tv_itxb1(
     ensures number { λ r. ⌜ r ≡ stageTwoNumber (length (now (src .entry))) (length (now (dst .entry))) «log2_size» «log2_line» shift ⌝ }
     ensures exit { λ r. ⌜ now (dst .exit) ≡ itxb1Exit «log2_size» «log2_line» shift (now (src .entry)) (now (dst .entry)) ⌝ }
 {
-    answer_number(stages::itxb1(src, dst, log2_size, log2_line, shift))
+    answer_number(stagesb1::itxb1(src, dst, log2_size, log2_line, shift))
 }
 
 #[no_mangle]

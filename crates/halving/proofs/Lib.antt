@@ -18,4 +18,5 @@ pub mod Products
 -- what callers cite
 pub mod Calls
 pub mod Own
+pub mod Nobody
 pub mod Clip

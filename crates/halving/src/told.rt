@@ -4,7 +4,7 @@ ghost use mathlib.Core.Path.{_≡_};
 ghost use Rattle.evc.specs.Answers.{answerNumber};
 use evc::Answer;
 
-pub(crate) fn told(a: Answer) -> Answer
+pub fn told(a: Answer) -> Answer
     ensures { λ r. ⌜ answerNumber r ≡ answerNumber a ⌝ }
 {
     match a {

@@ -1,12 +1,14 @@
-// Stage two. Differs from the Rust in: a call that breaks a test is refused and changes nothing.
+// Stage two of the inverse transform, the call that others use: the Rust's `itx_pb2b1` .. `itx_pb64b1`, picked by the size. Document 01, "The two
+// stages". Three crates side by side do the work, and each answers whether a call was its own; what none did is refused.
+// Differs from the Rust in: a call that breaks a test is refused and changes nothing.
 ghost use mathlib.Core.Path.{_≡_};
 ghost use mathlib.Core.Bool.{false};
 ghost use lib.ListN.{length};
 ghost use Rattle.evc.specs.Answers.{answerNumber};
 ghost use Rattle.evc.specs.Stages.{stageTwoNumber, itxb1Exit};
 ghost use Rattle.halving.specs.Own.{ownTwo};
-use super::told::told;
 use evc::Answer;
+use halving::told;
 
 // What `straightb1` does not do, called in two places as in stage one.
 fn large(src: &[i32], dst: &mut [i16], log2_size: usize, log2_line: usize, shift: u8) -> Answer

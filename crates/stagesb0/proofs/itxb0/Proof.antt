@@ -1,4 +1,4 @@
--- `stages::stage_two::itxb1` meets its contract: a small size by `straightb1`, or by what it does not do. Assumes nothing.
+-- `stagesb0::itxb0` meets its contract: a small size by `straightb0`, or by what it does not do. Assumes nothing.
 use borrow.Author.Needs.{needs}
 use mathlib.Core.Path.{_≡_, sym, subst, _∙_}
 use mathlib.Core.Bool.{false}
@@ -7,22 +7,22 @@ use Prim.Native.Nat.{ℕ}
 use lib.ListN.{length}
 use lib.IntN.{ℤ}
 use Rattle.evc.specs.Answers.{answerNumber}
-use Rattle.evc.specs.Stages.{stageTwoNumber, itxb1Exit}
-use Rattle.halving.specs.Own.{ownTwo}
-use Rattle.stages.proofs.Nobody.{did, not-own-is, unchanged, not-small}
-use Rattle.stages.proofs.stage_two.itxb1.Statement.{statement}
-use Rattle.stages.proofs.stage_two.itxb1.Tie as tie
+use Rattle.evc.specs.Stages.{stageOneNumber, itxb0Exit}
+use Rattle.halving.specs.Own.{ownOne}
+use Rattle.halving.proofs.Nobody.{did, not-own-is, unchanged, not-small}
+use Rattle.stagesb0.proofs.itxb0.Statement.{statement}
+use Rattle.stagesb0.proofs.itxb0.Tie as tie
 
 -- the refusal number, and what the stage leaves, by the output
 abbrev number : tie.Start → List ℤ → ℕ
-number s d = stageTwoNumber (length (s .args .src .now)) (length d) (s .args .log2-size) (s .args .log2-line) (s .args .shift)
+number s d = stageOneNumber (length (s .args .src .now)) (length d) (s .args .log2-size) (s .args .log2-line)
 
 abbrev exit : tie.Start → List ℤ → List ℤ
-exit s d = itxb1Exit (s .args .log2-size) (s .args .log2-line) (s .args .shift) (s .args .src .now) d
+exit s d = itxb0Exit (s .args .log2-size) (s .args .log2-line) (s .args .src .now) d
 
--- where `straightb1` left the call alone
-left : (c : tie.Else2) → c .before .before .itxb1 .last .1 .0 ≡ c .before .before .before .before .before .args .dst .now
-left c = let s = c .before .before .before .before .before in let k = c .before .before .itxb1 in unchanged 1 3 0 (s .args .log2-size) (s .args .log2-line) (number s) (exit s) (k .result) (s .args .dst .now) (k .ensures .0) (k .ensures .1) (c .if2 .left)
+-- where `straightb0` left the call alone
+left : (c : tie.Else2) → c .before .before .itxb0 .last .1 .0 ≡ c .before .before .before .before .before .args .dst .now
+left c = let s = c .before .before .before .before .before in let k = c .before .before .itxb0 in unchanged 1 3 0 (s .args .log2-size) (s .args .log2-line) (number s) (exit s) (k .result) (s .args .dst .now) (k .ensures .0) (k .ensures .1) (c .if2 .left)
 
 large-requires : tie.Need-large-requires
 large-requires c κs = let s = c .before .before in not-small (s .args .log2-size) (s .args .log2-line) _ (c .before .if1 .taken)
@@ -36,8 +36,8 @@ same-length c = search needs
 returns : tie.Need-returns
 returns c = search needs
 
-itxb1-requires : tie.Need-itxb1-requires
-itxb1-requires c κs = search needs
+itxb0-requires : tie.Need-itxb0-requires
+itxb0-requires c κs = search needs
 
 same-length-2 : tie.Need-same-length-2
 same-length-2 c = search needs
@@ -45,15 +45,15 @@ same-length-2 c = search needs
 returns-2 : tie.Need-returns-2
 returns-2 c =
     let s = c .before .before .before .before .before in
-    let k = c .before .before .itxb1 in
+    let k = c .before .before .itxb0 in
     did 1 3 0 (s .args .log2-size) (s .args .log2-line) (number s) (exit s) (k .result) (s .args .dst .now) (k .ensures .0) (k .ensures .1) (c .if2 .taken)
 
 large-requires-2 : tie.Need-large-requires-2
 large-requires-2 c κs =
     let e = c .before in
     let s = e .before .before .before .before .before in
-    let k = e .before .before .itxb1 in
-    subst (λ (d : List ℤ). ownTwo 1 3 0 (s .args .log2-size) (s .args .log2-line) (s .args .shift) (s .args .src .now) d ≡ false) (sym (left e))
+    let k = e .before .before .itxb0 in
+    subst (λ (d : List ℤ). ownOne 1 3 0 (s .args .log2-size) (s .args .log2-line) (s .args .src .now) d ≡ false) (sym (left e))
     (not-own-is 1 3 0 (s .args .log2-size) (s .args .log2-line) (number s) (exit s) (k .result) (s .args .dst .now) (k .ensures .0) (k .ensures .1) (e .if2 .left))
 
 told-requires-2 : tie.Need-told-requires-2
@@ -70,15 +70,15 @@ returns-3 c =
     subst (λ (d : List ℤ). (answerNumber (c .told2 .result) ≡ number s d) × (k .last .1 .0 ≡ exit s d)) (left e)
     (c .told2 .ensures ∙ k .ensures .0, k .ensures .1)
 
-pub itxb1-spec : {M : Type 1} → statement M
-itxb1-spec =
+pub itxb0-spec : {M : Type 1} → statement M
+itxb0-spec =
     tie.close
     (tie.spec
     large-requires
     told-requires
     same-length
     returns
-    itxb1-requires
+    itxb0-requires
     same-length-2
     returns-2
     large-requires-2

@@ -1,12 +1,14 @@
-// Stage one. Differs from the Rust in: a call that breaks a test is refused and changes nothing.
+// Stage one of the inverse transform, the call that others use: the Rust's `itx_pb2b0` .. `itx_pb64b0`, picked by the size. Document 01, "The two
+// stages". Three crates side by side do the work, and each answers whether a call was its own; what none did is refused.
+// Differs from the Rust in: a call that breaks a test is refused and changes nothing.
 ghost use mathlib.Core.Path.{_≡_};
 ghost use mathlib.Core.Bool.{false};
 ghost use lib.ListN.{length};
 ghost use Rattle.evc.specs.Answers.{answerNumber};
 ghost use Rattle.evc.specs.Stages.{stageOneNumber, itxb0Exit};
 ghost use Rattle.halving.specs.Own.{ownOne};
-use super::told::told;
 use evc::Answer;
+use halving::told;
 
 // What `straightb0` does not do. It is called in two places: compilers inline what has one caller, and a small call would pay for the buffers of the
 // large ones.

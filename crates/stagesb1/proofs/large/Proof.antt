@@ -1,4 +1,4 @@
--- `stages::stage_two::large` meets its contract: done by the one or the other crate, or refused. Assumes nothing.
+-- `stagesb1::large` meets its contract: done by the one or the other crate, or refused. Assumes nothing.
 use borrow.Author.Needs.{needs}
 use mathlib.Core.Path.{_≡_, _∙_, subst}
 use mathlib.Core.Bool.{false}
@@ -9,9 +9,10 @@ use lib.IntN.{ℤ}
 use Rattle.evc.specs.Answers.{answerNumber}
 use Rattle.evc.specs.Stages.{stageTwoNumber, itxb1Exit}
 use Rattle.halving.specs.Own.{ownTwo}
-use Rattle.stages.proofs.Nobody.{did, not-own-is, unchanged, two-nobody}
-use Rattle.stages.proofs.stage_two.large.Statement.{statement}
-use Rattle.stages.proofs.stage_two.large.Tie as tie
+use Rattle.halving.proofs.Nobody.{did, not-own-is, unchanged}
+use Rattle.stagesb1.proofs.Nobody.{two-nobody}
+use Rattle.stagesb1.proofs.large.Statement.{statement}
+use Rattle.stagesb1.proofs.large.Tie as tie
 
 -- the refusal number, and what the stage leaves, by the output
 abbrev number : tie.Start → List ℤ → ℕ

@@ -1,4 +1,4 @@
--- `stages::stage_one::large` meets its contract: done by the one or the other crate, or refused. Assumes nothing.
+-- `stagesb0::large` meets its contract: done by the one or the other crate, or refused. Assumes nothing.
 use borrow.Author.Needs.{needs}
 use mathlib.Core.Path.{_≡_, _∙_, subst}
 use mathlib.Core.Bool.{false}
@@ -9,9 +9,10 @@ use lib.IntN.{ℤ}
 use Rattle.evc.specs.Answers.{answerNumber}
 use Rattle.evc.specs.Stages.{stageOneNumber, itxb0Exit}
 use Rattle.halving.specs.Own.{ownOne}
-use Rattle.stages.proofs.Nobody.{did, not-own-is, unchanged, one-nobody}
-use Rattle.stages.proofs.stage_one.large.Statement.{statement}
-use Rattle.stages.proofs.stage_one.large.Tie as tie
+use Rattle.halving.proofs.Nobody.{did, not-own-is, unchanged}
+use Rattle.stagesb0.proofs.Nobody.{one-nobody}
+use Rattle.stagesb0.proofs.large.Statement.{statement}
+use Rattle.stagesb0.proofs.large.Tie as tie
 
 -- the refusal number, and what the stage leaves, by the output
 abbrev number : tie.Start → List ℤ → ℕ

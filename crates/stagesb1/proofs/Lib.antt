@@ -1,0 +1,2 @@
+-- The law of a call that none of the crates below did.
+pub mod Nobody
