@@ -78,7 +78,7 @@ fn of_four(
     of_width(a, a_at, a_stride, b, 4, h, depth, out)
 }
 
-// Blocks of any width: the common ones are literals, for which compilers write straight vector code.
+// Blocks of any width: common ones are literals, for which compilers write straight vector code. At 32 the code for any width is the shorter one.
 fn of_blocks(
     a: &[u16],
     a_at: usize,
@@ -95,7 +95,6 @@ fn of_blocks(
 {
     match w {
         64 => of_width(a, a_at, a_stride, b, 64, h, depth, out),
-        32 => of_width(a, a_at, a_stride, b, 32, h, depth, out),
         16 => of_width(a, a_at, a_stride, b, 16, h, depth, out),
         8 => of_width(a, a_at, a_stride, b, 8, h, depth, out),
         4 => of_four(a, a_at, a_stride, b, h, depth, out),
