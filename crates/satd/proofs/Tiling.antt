@@ -80,7 +80,7 @@ side-is w h = go (multiples 8 w h) (multiples 4 w h)
     go false true = inr (inl refl)
     go false false = inr (inr refl)
 
--- at most 64 tiles, or rows of tiles, of which each has at most this number
+-- a block's side holds at most 64 of them
 pub side-count : (n w : ℕ) → w ≤ 64 → w / n ≤ 64
 side-count n w p = le-trans (div-le-self w n) p
 
@@ -131,14 +131,15 @@ module _ {w h : ℕ} {a : List ℕ} {s t : ℕ} {b : List ℕ} {s′ t′ : ℕ}
   tested-most j i m q =
       abs-dif-le 16383 (cell 0 a s t j i) (cell 0 b s′ t′ j i) (omega (arith, k .small .first j i m q)) (omega (arith, k .small .second j i m q))
 
+  -- so no tile's number is above this
+  at-most : (n v u : ℕ) → v < h / n → u < w / n → tileNumber n (tile n (apartFrom a s t b s′ t′) v u) ≤ n * (n * (n * (n * 16383)))
+  at-most n v u p q =
+      number-most n 16383 (tile n (apartFrom a s t b s′ t′) v u)
+      (λ j i m r. tested-most (v * n + j) (u * n + i) (omega (arith, tile-ends n h v p)) (omega (arith, tile-ends n w u q)))
+
   module _ {n : ℕ} (side : Side n) where
-    -- so no tile's number is above this
     pub tile-most : (v u : ℕ) → v < h / n → u < w / n → tileNumber n (tile n (apartFrom a s t b s′ t′) v u) ≤ 67104768
-    tile-most v u p q =
-        le-trans
-        (number-most n 16383 (tile n (apartFrom a s t b s′ t′) v u)
-        (λ j i m r. tested-most (v * n + j) (u * n + i) (omega (arith, tile-ends n h v p)) (omega (arith, tile-ends n w u q))))
-        (side-most side)
+    tile-most v u p q = le-trans (at-most n v u p q) (side-most side)
 
     -- nor the numbers of a row of tiles
     pub tiles-most : (v : ℕ) → v < h / n → sumN (w / n) (λ u. tileNumber n (tile n (apartFrom a s t b s′ t′) v u)) ≤ 4294705152
@@ -147,16 +148,13 @@ module _ {w h : ℕ} {a : List ℕ} {s t : ℕ} {b : List ℕ} {s′ t′ : ℕ}
         (mul-le-mul-right 67104768 (side-count n w (k .blocks .narrow)))
 
   -- nor the total of at most k by k tiles
-  satd-most :
-      (n k : ℕ) → h / n ≤ k → w / n ≤ k → satdTotal n w h (apartFrom a s t b s′ t′) ≤ k * (k * (n * (n * (n * (n * 16383)))))
+  satd-most : (n k : ℕ) → h / n ≤ k → w / n ≤ k → satdTotal n w h (apartFrom a s t b s′ t′) ≤ k * (k * (n * (n * (n * (n * 16383)))))
   unfolding satdTotal
   satd-most n k x y =
       let c = n * (n * (n * (n * 16383))) in
       le-trans
       (sum-le (h / n) (w / n * c) (λ v. sumN (w / n) (λ u. tileNumber n (tile n (apartFrom a s t b s′ t′) v u)))
-      (λ v m. sum-le (w / n) c (λ u. tileNumber n (tile n (apartFrom a s t b s′ t′) v u))
-      (λ u l. number-most n 16383 (tile n (apartFrom a s t b s′ t′) v u)
-      (λ j i p r. tested-most (v * n + j) (u * n + i) (omega (arith, tile-ends n h v m)) (omega (arith, tile-ends n w u l))))))
+      (λ v m. sum-le (w / n) c (λ u. tileNumber n (tile n (apartFrom a s t b s′ t′) v u)) (λ u l. at-most n v u m l)))
       (mul-le-mul x (mul-le-mul-right c y))
 
   -- so the total of tiles of any side fits 32 bits
