@@ -1,5 +1,5 @@
 -- Rows of tested blocks, sides that literals name, and the area of a packed block. Assumes nothing.
-use mathlib.Core.Path.{_≡_, refl, sym, ap, subst}
+use mathlib.Core.Path.{_≡_, refl, sym, ap, ap₂, subst}
 use mathlib.Core.Bool.{Bool, true, false, _||_}
 use mathlib.Core.List.{List}
 use Prim.Native.Nat.{ℕ, _+_, _-_, _*_, _<_, _≤_}
@@ -46,7 +46,7 @@ sides-left {w} {w′} {h} {h′} {a} b depth {l} {n} {x} e f d =
     subst (λ (u : ℕ). Differed u h a (strided b 0 u depth) l n x) (sym e) (subst (λ (v : ℕ). Differed w′ v a (strided b 0 w′ depth) l n x) (sym f) d)
 
 -- a packed block lies outside its buffer exactly where that has fewer than h * w samples
-pub packed-area : (n w h : ℕ) → (1 ≤ w) × (w ≤ 64) → (1 ≤ h) × (h ≤ 64) → outsidePlane n w h w 0 0 w h ≡ ltb n (h * w)
+packed-area : (n w h : ℕ) → (1 ≤ w) × (w ≤ 64) → (1 ≤ h) × (h ≤ 64) → outsidePlane n w h w 0 0 w h ≡ ltb n (h * w)
 packed-area n w h p q =
     let d = add-mul (h - 1) 1 w in
     let f : (h - 1 + 1) * w ≡ h * w = ap (λ (k : ℕ). k * w) (omega arith) in
@@ -65,3 +65,8 @@ packed-area n w h p q =
     or-nothing : (t : Bool) → t || false || false ≡ t
     or-nothing true = refl
     or-nothing false = refl
+
+-- what two tests of areas find, of which the second is of a packed block
+pub areas-found :
+    (r s : Bool) (n w h : ℕ) → (1 ≤ w) × (w ≤ 64) → (1 ≤ h) × (h ≤ 64) → r ≡ s → s || outsidePlane n w h w 0 0 w h ≡ r || ltb n (h * w)
+areas-found r s n w h p q e = ap₂ _||_ (sym e) (packed-area n w h p q)

@@ -1,9 +1,10 @@
 -- `diff_rows` meets its contract. Assumes nothing.
 use mathlib.Core.Path.{_≡_, sym, ap, _∙_}
+use mathlib.Core.List.{List}
 use Prim.Native.Nat.{ℕ, _+_, _*_, _-_, _≤_}
 use native.Mathlib.Nat.{zero-add}
 use native.Mathlib.Omega.{arith}
-use lib.IntN.{pos, _-ℤ_}
+use lib.IntN.{ℤ, pos, _-ℤ_}
 use lib.ListN.{length, getD}
 use Rattle.integers.specs.Lists.{tab}
 use Rattle.integers.proofs.Written.{tab-ext, grid-at}
@@ -65,18 +66,13 @@ diff-row-requires c κs = ((one (c .before), two (c .before)), row-long (c .befo
 
 -- what the row's differences are, by their places in the output
 placed :
-    (c : tie.After-diff-row Inv-loop μ-loop) →
-    let a = c .before .before .before .before .before .before .args in
-    let j = c .before .before .before .loop .j in
-    c .diff-row .last .1 .1 .1 .1 .1 .0 ≡ tab (a .w) (λ i. diffAt (a .w) (apartFrom (a .a .now) (a .a-at) (a .a-stride) (a .b .now) 0 (a .w)) (j * a .w + i))
+    (r : List ℤ) (a : List ℕ) (s t : ℕ) (b : List ℕ) (w j : ℕ) → r ≡ tab w (λ i. pos (getD a (s + j * t + i) 0) -ℤ pos (getD b (j * w + i) 0)) →
+    r ≡ tab w (λ i. diffAt w (apartFrom a s t b 0 w) (j * w + i))
 unfolding diffAt apartFrom cell
-placed c =
-    let a = c .before .before .before .before .before .before .args in
-    let j = c .before .before .before .loop .j in
-    let d = apartFrom (a .a .now) (a .a-at) (a .a-stride) (a .b .now) 0 (a .w) in
-    c .diff-row .ensures
-    ∙ ap (λ (q : ℕ). tab (a .w) (λ i. pos (getD (a .a .now) (a .a-at + j * a .a-stride + i) 0) -ℤ pos (getD (a .b .now) (q + i) 0))) (sym (zero-add (j * a .w)))
-    ∙ tab-ext (a .w) (d j) (λ i. diffAt (a .w) d (j * a .w + i)) (λ i m. sym (grid-at d j i (a .w) m))
+placed r a s t b w j e =
+    let d = apartFrom a s t b 0 w in
+    e ∙ ap (λ (q : ℕ). tab w (λ i. pos (getD a (s + j * t + i) 0) -ℤ pos (getD b (q + i) 0))) (sym (zero-add (j * w)))
+    ∙ tab-ext w (d j) (λ i. diffAt w d (j * w + i)) (λ i m. sym (grid-at d j i w m))
 
 add-j : tie.Need-add-j Inv-loop μ-loop
 add-j c = omega arith
@@ -86,7 +82,10 @@ loop-less c = omega arith
 
 loop-again : tie.Need-loop-again Inv-loop μ-loop
 loop-again c =
-    wrote-row (c .before .before .before .before .loop .inv) (c .before .before .before .loop-test .taken) (c .before .diff-row .last .1 .1 .1 .1 .1 .0) (placed (c .before))
+    let a = c .before .before .before .before .before .before .before .args in
+    let r = c .before .diff-row .last .1 .1 .1 .1 .1 .0 in
+    wrote-row (c .before .before .before .before .loop .inv) (c .before .before .before .loop-test .taken) r
+    (placed r (a .a .now) (a .a-at) (a .a-stride) (a .b .now) (a .w) (c .before .before .before .before .loop .j) (c .before .diff-row .ensures))
 
 same-length : tie.Need-same-length Inv-loop μ-loop
 same-length c = wrote-long (c .before .loop .inv)

@@ -1,5 +1,5 @@
 -- `evce_diff_16b` meets its contract: each refusal is the first broken test, and what is left is read alike. Assumes nothing.
-use mathlib.Core.Path.{_≡_, refl, sym, ap₂, _∙_}
+use mathlib.Core.Path.{_≡_, refl, sym, ap, _∙_}
 use mathlib.Core.Bool.{Bool, false, _||_}
 use Prim.Native.Nat.{ℕ, _+_, _*_, _-_, _^_, _≤_}
 use native.Mathlib.Nat.{mul-le-mul}
@@ -17,7 +17,7 @@ use Rattle.planes.specs.Blocks.{TwoBlocks}
 use Rattle.planes.proofs.Planes.{is-inside, rows-inside, plane-alike}
 use Rattle.planes.proofs.SmallSides.{logs-small, side-small, shifted, shifted-is}
 use Rattle.diff.proofs.Differing.{differed-alike, diff-size, diff-depth, diff-area, diff-rest}
-use Rattle.diff.proofs.Tested.{packed-area}
+use Rattle.diff.proofs.Tested.{areas-found}
 use Rattle.diff.proofs.diff.evce_diff_16b.Statement.{statement}
 use Rattle.diff.proofs.diff.evce_diff_16b.Tie as tie
 
@@ -100,7 +100,8 @@ areas c =
     let w = shifted (a .log2-w) in
     let h = shifted (a .log2-h) in
     let k = small s in
-    ap₂ (λ (t u : Bool). t || u || ltb (length (a .diff .now)) (h * w)) (sym (c .outside-plane .ensures)) (packed-area (length (a .cur .now)) w h (k .0) (k .1))
+    ap (λ (t : Bool). t || ltb (length (a .diff .now)) (h * w))
+    (areas-found (c .outside-plane .result) (A (s .before .before) w h .area) (length (a .cur .now)) w h (k .0) (k .1) (c .outside-plane .ensures))
 
 returns-3 : tie.Need-returns-3
 returns-3 c =

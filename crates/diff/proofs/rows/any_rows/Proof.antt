@@ -1,5 +1,6 @@
 -- `any_rows` meets its contract. Assumes nothing.
-use mathlib.Core.Path.{sym, ap, _∙_}
+use mathlib.Core.Path.{_≡_, sym, ap, _∙_}
+use mathlib.Core.List.{List}
 use Prim.Native.Nat.{ℕ, _+_, _-_, _*_}
 use native.Mathlib.Nat.{zero-add}
 use native.Mathlib.Omega.{arith}
@@ -11,6 +12,12 @@ use Rattle.planes.specs.Blocks.{cell}
 use Rattle.planes.proofs.Planes.{in-one, in-two}
 use Rattle.diff.proofs.rows.any_rows.Statement.{statement}
 use Rattle.diff.proofs.rows.any_rows.Tie as tie
+
+-- a packed block's row j starts at j * w
+packed-row :
+    (r : ℕ) (a : List ℕ) (p : ℕ) (b : List ℕ) (w j : ℕ) → r ≡ orN w (λ i. bitOr (getD a (p + i) 0) (getD b (j * w + i) 0)) →
+    r ≡ orN w (λ i. bitOr (getD a (p + i) 0) (getD b (0 + j * w + i) 0))
+packed-row r a p b w j e = e ∙ ap (λ (q : ℕ). orN w (λ i. bitOr (getD a (p + i) 0) (getD b (q + i) 0))) (sym (zero-add (j * w)))
 
 abbrev Inv-loop : tie.InvT-loop
 Inv-loop a a-at a-stride b w h any₀ j₀ any j =
@@ -47,7 +54,7 @@ loop-again c =
     let a = c .before .before .before .before .before .args in
     let j = c .before .before .loop .j in
     summed-step (c .before .before .loop .inv) (c .before .loop-test .taken)
-    (c .any-row .ensures ∙ ap (λ (q : ℕ). orN (a .w) (λ i. bitOr (getD (a .a .now) (a .a-at + j * a .a-stride + i) 0) (getD (a .b .now) (q + i) 0))) (sym (zero-add (j * a .w))))
+    (packed-row (c .any-row .result) (a .a .now) (a .a-at + j * a .a-stride) (a .b .now) (a .w) j (c .any-row .ensures))
 
 returns : tie.Need-returns Inv-loop μ-loop
 returns c = summed-end (c .before .loop .inv) (omega arith)

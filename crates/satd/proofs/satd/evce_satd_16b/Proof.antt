@@ -1,5 +1,5 @@
 -- `evce_satd_16b` meets its contract: each refusal is the first broken test, and what is left is read alike. Assumes nothing.
-use mathlib.Core.Path.{_≡_, refl, sym, ap, ap₂, _∙_}
+use mathlib.Core.Path.{_≡_, refl, sym, ap, _∙_}
 use mathlib.Core.Bool.{false, _||_}
 use Prim.Native.Nat.{ℕ, _+_, _*_, _-_, _/_, _%_, _^_, _≤_}
 use native.Mathlib.Nat.{mul-le-mul}
@@ -15,7 +15,7 @@ use Rattle.planes.specs.Areas.{outsidePlane}
 use Rattle.planes.specs.Blocks.{TwoBlocks}
 use Rattle.planes.proofs.Planes.{is-inside, rows-inside, plane-alike}
 use Rattle.planes.proofs.Replies.{rest-alike}
-use Rattle.diff.proofs.Tested.{packed-area}
+use Rattle.diff.proofs.Tested.{areas-found}
 use Rattle.satd.proofs.Tiling.{satd-alike, satd-size, satd-depth, satd-area, satd-rest}
 use Rattle.satd.proofs.satd.evce_satd_16b.Statement.{statement}
 use Rattle.satd.proofs.satd.evce_satd_16b.Tie as tie
@@ -70,7 +70,8 @@ areas c =
     let s = c .before .before .before in
     let a = s .before .before .before .before .args in
     let k = small s in
-    ap₂ _||_ (sym (c .outside-plane .ensures)) (packed-area (length (a .cur .now)) (a .w) (a .h) (omega arith, k .0 .1) (omega arith, k .1 .1))
+    areas-found (c .outside-plane .result) (outsidePlane (length (a .org .now)) (a .width) (a .height) (a .stride) (a .x) (a .y) (a .w) (a .h))
+    (length (a .cur .now)) (a .w) (a .h) (omega arith, k .0 .1) (omega arith, k .1 .1) (c .outside-plane .ensures)
 
 returns-3 : tie.Need-returns-3
 returns-3 c =
