@@ -6,6 +6,7 @@ use Prim.Native.Nat.{ℕ, _-_, _/_, _^_, _≤_}
 use native.Mathlib.Nat.{le-trans, div-le-self}
 use native.Mathlib.Omega.{arith}
 use lib.Dec.{leb}
+use lib.IntN.{ℤ}
 use lib.Pow.{pow-mono}
 use borrow.Author.Needs.{needs}
 use borrow.Author.Tests.{le-leb, lt-leb}
@@ -82,6 +83,9 @@ cast-satd c = search needs
 shr-satd : tie.Need-shr-satd
 shr-satd c = search needs
 
+chosen : (r n m w h : ℕ) (d : ℕ → ℕ → ℤ) → n ≡ m → r ≡ satdTotal n w h d → r ≡ satdTotal m w h d
+chosen r n m w h d e f = f ∙ ap (λ (k : ℕ). satdTotal k w h d) e
+
 -- the total of the tiles that the definition asks for
 summed :
     (c : tie.After-total) →
@@ -89,7 +93,8 @@ summed :
     c .total .result ≡ satdTotal (tileSide (a .w) (a .h)) (a .w) (a .h) (apartFrom (a .a .now) (a .a-at) (a .a-stride) (a .b .now) 0 (a .w))
 summed c =
     let a = c .before .before .before .before .before .before .args in
-    c .total .ensures ∙ ap (λ (n : ℕ). satdTotal n (a .w) (a .h) (apartFrom (a .a .now) (a .a-at) (a .a-stride) (a .b .now) 0 (a .w))) (c .before .side .ensures)
+    chosen (c .total .result) (c .before .side .result) (tileSide (a .w) (a .h)) (a .w) (a .h)
+    (apartFrom (a .a .now) (a .a-at) (a .a-stride) (a .b .now) 0 (a .w)) (c .before .side .ensures) (c .total .ensures)
 
 cast-satd-2 : tie.Need-cast-satd-2
 cast-satd-2 c =

@@ -5,7 +5,7 @@ use mathlib.Core.List.{List}
 use Prim.Native.Nat.{ℕ}
 use lib.IntN.{ℤ}
 use Rattle.evc.specs.Tiles.{tileNumber}
-use Rattle.diff.specs.Small.{Tested}
+use Rattle.diff.specs.Small.{Tested, apartFrom}
 use Rattle.satd.specs.Sides.{Side}
 use Rattle.satd.proofs.sums.number.Statement.{statement}
 use Rattle.satd.proofs.sums.number.Tie as tie
@@ -41,7 +41,11 @@ returns-2 c = number-at _ 4 _ (c .before .match .keys2) (c .number2 .ensures)
 
 returns-3 : tie.Need-returns-3
 returns-3 c =
-    let m = c .before .match .rest in number-at _ 2 _ (last (c .before .before .before .before .pre .0) (m .0 .1) (m .1)) (c .number3 .ensures)
+    let s = c .before .before .before .before in
+    let a = s .args in
+    let m = c .before .match .rest in
+    number-at (a .side) 2 (apartFrom (a .a .now) (a .a-at) (a .a-stride) (a .b .now) (a .b-at) (a .b-stride)) (last (s .pre .0) (m .0 .1) (m .1))
+    (c .number3 .ensures)
 
 pub number-spec : {M : Type 1} → statement M
 number-spec = tie.close (tie.spec number-requires number-requires-2 number-requires-3 returns returns-2 returns-3)
