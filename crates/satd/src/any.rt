@@ -1,4 +1,4 @@
-// The OR of all samples of two blocks, of which the second is packed, with the common widths as literals, for which compilers write straight vector code.
+// The OR of all samples of two blocks, of which the second is packed. Common widths are literals, for which compilers write straight vector code.
 ghost use mathlib.Core.Path.{_≡_};
 ghost use lib.ListN.{length};
 ghost use Rattle.planes.specs.Blocks.{TwoBlocks};

@@ -11,8 +11,8 @@ ghost use Rattle.satd.specs.Rests.{satdLeft};
 use evc::Distortion;
 use evc::Refusal;
 
-// Two blocks of samples, after all other tests: the samples are tested, and only then their differences are formed. The
-// second block is packed.
+// Two blocks of samples, after all other tests: the samples are tested, and only then their differences are formed. The second
+// block is packed.
 fn of_blocks(
     a: &[u16],
     a_at: usize,
