@@ -15,14 +15,8 @@ FROM = CRATES / "diff"
 SIDES = (4, 2)
 
 
-def most(side):
-    """The largest number of a tile whose differences have 14 bits, by the law `tile-most`."""
-    return side**4 * 16383
-
-
 def turned(text, side):
     text = text.replace("tiles8", f"tiles{side}").replace("8x8", f"{side}x{side}")
-    text = text.replace(str(64 * most(8)), str(64 * most(side))).replace(str(most(8)), str(most(side)))
     return re.sub(r"\b8\b", str(side), text)
 
 

@@ -1,24 +1,24 @@
 -- How a call of DIFF ends: its number and its buffer together, test by test. A and B give the two blocks by their sides, as in Logs.
 -- Assumes nothing.
 use mathlib.Core.Path.{_≡_, refl, sym, ap, ap₂, _∙_}
-use mathlib.Core.Bool.{Bool, true, false, _||_}
+use mathlib.Core.Bool.{Bool, true, false, _||_, true≢false, false≢true}
 use mathlib.Core.List.{List, _∷_, _++_}
 use Prim.Native.Nat.{ℕ, suc, _+_, _*_, _/_, _%_, _^_, _≤_, _<_}
-use native.Mathlib.Nat.{mul-comm, mod-lt, div-lt-iff-lt-mul, le-trans, le-of-eq, lt-of-lt-of-le}
+use native.Mathlib.Nat.{mul-comm, mod-lt, div-lt-iff-lt-mul}
 use lib.Dec.{ltb}
-use borrow.Author.Tests.{lt-ltb, le-ltb}
 use lib.IntN.{ℤ}
 use lib.ListN.{length}
 use lib.Pow.{pow-add}
 use Rattle.integers.specs.Lists.{written}
 use Rattle.integers.proofs.Written.{written-ext}
 use Rattle.order.specs.Jobs.{ifAccepted}
+use Rattle.order.proofs.Tests.{neither-left, neither-right}
 use Rattle.evc.specs.declared.Refusal.the-variants.{Area}
 use Rattle.evc.specs.Tests.{Test, _when_, first, outside, logSizes, samplesOf}
 use Rattle.evc.specs.Planes.{Block}
 use Rattle.evc.specs.Differences.{difference, diffAt}
 use Rattle.evc.specs.Calls.{depthTest, areaTests, sampleTests, diffNumber, diffExit}
-use Rattle.planes.proofs.Replies.{Alike, samples-alike, dif-alike, at-size, at-depth, at-area, at-second, at-rest}
+use Rattle.planes.proofs.Replies.{Alike, samples-alike, dif-alike, at-size, at-depth}
 use Rattle.diff.specs.Rests.{Differed}
 
 -- h rows of w are the samples of the two logarithms
@@ -36,6 +36,22 @@ differed-alike {w} {h} {a} {a′} {b} {b′} {l} {n} {x} some p q d = record {
   where
     each : (k : ℕ) → k < h * w → difference a b (k / w) (k % w) ≡ difference a′ b′ (k / w) (k % w)
     each k m = dif-alike p q (k / w) (k % w) (div-lt-iff-lt-mul some .1 m) (mod-lt k some)
+
+-- ---- AREA, three times in a row: one of the tests is broken, or none is
+abbrev areas-then : Bool → Bool → Bool → List Test → ℕ
+areas-then s t u us = first ((Area when s) ∷ (Area when t) ∷ (Area when u) ∷ us)
+
+some-area : (s t u : Bool) (us : List Test) → s || t || u ≡ true → 5 ≡ areas-then s t u us
+some-area true t u us e = refl
+some-area false true u us e = refl
+some-area false false true us e = refl
+some-area false false false us e = absurd (false≢true e)
+
+no-area : (s t u : Bool) (us : List Test) → s || t || u ≡ false → first us ≡ areas-then s t u us
+no-area true t u us e = absurd (true≢false e)
+no-area false true u us e = absurd (true≢false e)
+no-area false false true us e = absurd (true≢false e)
+no-area false false false us e = refl
 
 module _ (logw logh depth : ℕ) (A B : ℕ → ℕ → Block) (l : List ℤ) where
   abbrev number : ℕ
@@ -73,32 +89,34 @@ module _ (logw logh depth : ℕ) (A B : ℕ → ℕ → Block) (l : List ℤ) wh
       diff-depth f = stops 3 (at-depth (ltb 6 logw) (ltb 6 logh) depth (A w h .area) (B w h .area) others e f)
 
       module _ (f : outside 8 14 depth ≡ false) where
-        pub diff-area : A w h .area ≡ true → Ends 5 l
-        diff-area g = stops 4 (at-area (ltb 6 logw) (ltb 6 logh) depth (A w h .area) (B w h .area) others e f g)
+        -- what the tests of the two areas and of the room find
+        abbrev areas : Bool
+        areas = A w h .area || B w h .area || ltb (length l) (h * w)
 
-        module _ (g : A w h .area ≡ false) where
-          pub diff-second : B w h .area ≡ true → Ends 5 l
-          diff-second k = stops 4 (at-second (ltb 6 logw) (ltb 6 logh) depth (A w h .area) (B w h .area) others e f g k)
+        -- the same by the samples of the two logarithms
+        at-samples : areas ≡ A w h .area || B w h .area || ltb (length l) (samplesOf logw logh)
+        at-samples = ap (λ (m : ℕ). A w h .area || B w h .area || ltb (length l) m) (rows-are logw logh w h p q)
 
-          module _ (k : B w h .area ≡ false) where
-            then : first others ≡ whole
-            then = at-rest (ltb 6 logw) (ltb 6 logh) depth (A w h .area) (B w h .area) others e f g k
+        asked : first (areaTests (A w h) (B w h) ++ others) ≡ whole
+        asked = rw (neither-left (ltb 6 logw) (ltb 6 logh) e, neither-right (ltb 6 logw) (ltb 6 logh) e, f)
 
-            pub diff-room : length l < h * w → Ends 5 l
-            diff-room m =
-                let t = lt-ltb (length l) (samplesOf logw logh) (lt-of-lt-of-le m (le-of-eq (rows-are logw logh w h p q))) in
-                stops 4 (ap (λ (u : Bool). first ((Area when u) ∷ sampleTests w h (A w h) (B w h))) (sym t) ∙ then)
+        pub diff-area : areas ≡ true → Ends 5 l
+        diff-area g =
+            stops 4
+            (some-area (A w h .area) (B w h .area) (ltb (length l) (samplesOf logw logh)) (sampleTests w h (A w h) (B w h)) (sym at-samples ∙ g) ∙ asked)
 
-            pub diff-rest : {n : ℕ} {x : List ℤ} → h * w ≤ length l → Differed w h (A w h) (B w h) l n x → Ends n x
-            unfolding diffExit
-            diff-rest {n} {x} m d =
-                let t = le-ltb (length l) (samplesOf logw logh) (le-trans (le-of-eq (sym (rows-are logw logh w h p q))) m) in
-                let z : n ≡ number = d .answer ∙ ap (λ (u : Bool). first ((Area when u) ∷ sampleTests w h (A w h) (B w h))) (sym t) ∙ then ∙ same in (
-                  z,
-                  d .buffer
-                      ∙ ap₂ (λ (i j : ℕ). ifAccepted i (written j (diffAt w (difference (A w h) (B w h))) l) l) z (rows-are logw logh w h p q)
-                      ∙ ap₂ (λ (w h : ℕ). ifAccepted number (written (samplesOf logw logh) (diffAt w (difference (A w h) (B w h))) l) l) p q,
-                )
+        pub diff-rest : {n : ℕ} {x : List ℤ} → areas ≡ false → Differed w h (A w h) (B w h) l n x → Ends n x
+        unfolding diffExit
+        diff-rest {n} {x} g d =
+            let z : n ≡ number =
+            d .answer
+            ∙ no-area (A w h .area) (B w h .area) (ltb (length l) (samplesOf logw logh)) (sampleTests w h (A w h) (B w h)) (sym at-samples ∙ g) ∙ asked ∙ same
+            in (
+              z,
+              d .buffer
+                  ∙ ap₂ (λ (i j : ℕ). ifAccepted i (written j (diffAt w (difference (A w h) (B w h))) l) l) z (rows-are logw logh w h p q)
+                  ∙ ap₂ (λ (w h : ℕ). ifAccepted number (written (samplesOf logw logh) (diffAt w (difference (A w h) (B w h))) l) l) p q,
+            )
 
   pub diff-size : ltb 6 logw || ltb 6 logh ≡ true → Ends 1 l
   diff-size e =

@@ -15,32 +15,23 @@ ghost use Rattle.diff.specs.Rests.{Differed};
 use evc::Answer;
 use evc::Refusal;
 
-// The differences of two blocks, row after row.
+// The differences of two blocks, row after row. Here and below the second block is packed.
 fn diff_rows(
     a: &[u16],
     a_at: usize,
     a_stride: usize,
     b: &[u16],
-    b_at: usize,
-    b_stride: usize,
     w: usize,
     h: usize,
     out: &mut [i16],
 )
-    requires { ⌜ Ready w h (now a) «a_at» «a_stride» (now b) «b_at» «b_stride» (length (now out)) ⌝ }
-    ensures { λ _. ⌜ now (out .exit) ≡ written (h * w) (diffAt w (apartFrom (now (a .entry)) «a_at» «a_stride» (now (b .entry)) «b_at» «b_stride»)) (now (out .entry)) ⌝ }
+    requires { ⌜ Ready w h (now a) «a_at» «a_stride» (now b) 0 w (length (now out)) ⌝ }
+    ensures { λ _. ⌜ now (out .exit) ≡ written (h * w) (diffAt w (apartFrom (now (a .entry)) «a_at» «a_stride» (now (b .entry)) 0 w)) (now (out .entry)) ⌝ }
 {
     for j in 0..h {
         let from = j * w;
         let to = from + w;
-        crate::rows::diff_row(
-            a,
-            a_at + j * a_stride,
-            b,
-            b_at + j * b_stride,
-            w,
-            &mut out[from..to],
-        );
+        crate::rows::diff_row(a, a_at + j * a_stride, b, from, w, &mut out[from..to]);
     }
 }
 
@@ -50,22 +41,20 @@ fn of_width(
     a_at: usize,
     a_stride: usize,
     b: &[u16],
-    b_at: usize,
-    b_stride: usize,
     w: usize,
     h: usize,
     depth: u8,
     out: &mut [i16],
 ) -> Answer
-    requires { ⌜ TwoBlocks w h (length (now a)) «a_at» «a_stride» (length (now b)) «b_at» «b_stride» ⌝ }
+    requires { ⌜ TwoBlocks w h (length (now a)) «a_at» «a_stride» (length (now b)) 0 w ⌝ }
     requires { ⌜ (depth ≤ 14) × (h * w ≤ length (now out)) ⌝ }
-    ensures { λ r. ⌜ Differed w h (strided (now (a .entry)) «a_at» «a_stride» depth) (strided (now (b .entry)) «b_at» «b_stride» depth) (now (out .entry)) (answerNumber r) (now (out .exit)) ⌝ }
+    ensures { λ r. ⌜ Differed w h (strided (now (a .entry)) «a_at» «a_stride» depth) (strided (now (b .entry)) 0 w depth) (now (out .entry)) (answerNumber r) (now (out .exit)) ⌝ }
 {
-    let any = crate::rows::any_rows(a, a_at, a_stride, b, b_at, b_stride, w, h);
+    let any = crate::rows::any_rows(a, a_at, a_stride, b, w, h);
     if any >> depth != 0 {
         return Answer::Refused(Refusal::Sample);
     }
-    diff_rows(a, a_at, a_stride, b, b_at, b_stride, w, h, out);
+    diff_rows(a, a_at, a_stride, b, w, h, out);
     Answer::Done
 }
 
@@ -75,46 +64,41 @@ fn of_four(
     a_at: usize,
     a_stride: usize,
     b: &[u16],
-    b_at: usize,
-    b_stride: usize,
     h: usize,
     depth: u8,
     out: &mut [i16],
 ) -> Answer
-    requires { ⌜ TwoBlocks 4 h (length (now a)) «a_at» «a_stride» (length (now b)) «b_at» «b_stride» ⌝ }
+    requires { ⌜ TwoBlocks 4 h (length (now a)) «a_at» «a_stride» (length (now b)) 0 4 ⌝ }
     requires { ⌜ (depth ≤ 14) × (h * 4 ≤ length (now out)) ⌝ }
-    ensures { λ r. ⌜ Differed 4 h (strided (now (a .entry)) «a_at» «a_stride» depth) (strided (now (b .entry)) «b_at» «b_stride» depth) (now (out .entry)) (answerNumber r) (now (out .exit)) ⌝ }
+    ensures { λ r. ⌜ Differed 4 h (strided (now (a .entry)) «a_at» «a_stride» depth) (strided (now (b .entry)) 0 4 depth) (now (out .entry)) (answerNumber r) (now (out .exit)) ⌝ }
 {
     if h == 4 {
-        return of_width(a, a_at, a_stride, b, b_at, b_stride, 4, 4, depth, out);
+        return of_width(a, a_at, a_stride, b, 4, 4, depth, out);
     }
-    of_width(a, a_at, a_stride, b, b_at, b_stride, 4, h, depth, out)
+    of_width(a, a_at, a_stride, b, 4, h, depth, out)
 }
 
-// Blocks of any width: the common ones are literals, for which compilers write straight vector code.
+// Blocks of any width: common ones are literals, for which compilers write straight vector code. At 32 the code for any width is the shorter one.
 fn of_blocks(
     a: &[u16],
     a_at: usize,
     a_stride: usize,
     b: &[u16],
-    b_at: usize,
-    b_stride: usize,
     w: usize,
     h: usize,
     depth: u8,
     out: &mut [i16],
 ) -> Answer
-    requires { ⌜ TwoBlocks w h (length (now a)) «a_at» «a_stride» (length (now b)) «b_at» «b_stride» ⌝ }
+    requires { ⌜ TwoBlocks w h (length (now a)) «a_at» «a_stride» (length (now b)) 0 w ⌝ }
     requires { ⌜ (depth ≤ 14) × (h * w ≤ length (now out)) ⌝ }
-    ensures { λ r. ⌜ Differed w h (strided (now (a .entry)) «a_at» «a_stride» depth) (strided (now (b .entry)) «b_at» «b_stride» depth) (now (out .entry)) (answerNumber r) (now (out .exit)) ⌝ }
+    ensures { λ r. ⌜ Differed w h (strided (now (a .entry)) «a_at» «a_stride» depth) (strided (now (b .entry)) 0 w depth) (now (out .entry)) (answerNumber r) (now (out .exit)) ⌝ }
 {
     match w {
-        64 => of_width(a, a_at, a_stride, b, b_at, b_stride, 64, h, depth, out),
-        32 => of_width(a, a_at, a_stride, b, b_at, b_stride, 32, h, depth, out),
-        16 => of_width(a, a_at, a_stride, b, b_at, b_stride, 16, h, depth, out),
-        8 => of_width(a, a_at, a_stride, b, b_at, b_stride, 8, h, depth, out),
-        4 => of_four(a, a_at, a_stride, b, b_at, b_stride, h, depth, out),
-        _ => of_width(a, a_at, a_stride, b, b_at, b_stride, w, h, depth, out),
+        64 => of_width(a, a_at, a_stride, b, 64, h, depth, out),
+        16 => of_width(a, a_at, a_stride, b, 16, h, depth, out),
+        8 => of_width(a, a_at, a_stride, b, 8, h, depth, out),
+        4 => of_four(a, a_at, a_stride, b, h, depth, out),
+        _ => of_width(a, a_at, a_stride, b, w, h, depth, out),
     }
 }
 
@@ -142,14 +126,12 @@ pub fn evce_diff_16b(
     if planes::wrong_depth(depth) {
         return Answer::Refused(Refusal::Depth);
     }
-    if planes::outside_plane(org.len(), width, height, stride, x, y, w, h) {
+    let n = h * w;
+    if planes::outside_plane(org.len(), width, height, stride, x, y, w, h)
+        | (cur.len() < n)
+        | (diff.len() < n)
+    {
         return Answer::Refused(Refusal::Area);
     }
-    if planes::outside_plane(cur.len(), w, h, w, 0, 0, w, h) {
-        return Answer::Refused(Refusal::Area);
-    }
-    if diff.len() < h * w {
-        return Answer::Refused(Refusal::Area);
-    }
-    of_blocks(org, y * stride + x, stride, cur, 0, w, w, h, depth, diff)
+    of_blocks(org, y * stride + x, stride, cur, w, h, depth, diff)
 }

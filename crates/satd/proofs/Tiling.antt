@@ -1,19 +1,21 @@
 -- Tiles of two tested blocks, of any side n: a part of tested blocks is tested; what a tile's differences are; that its number is that of the
 -- definition, and how large it can be. Assumes nothing.
-use mathlib.Core.Path.{_≡_, ap, ap₂, _∙_}
+use mathlib.Core.Path.{_≡_, refl, ap, ap₂, subst, _∙_}
+use mathlib.Core.Logic.{inl, inr}
 use mathlib.Core.List.{List, []}
 use Prim.Native.Nat.{ℕ, _+_, _-_, _*_, _/_, _%_, _^_, _≤_, _<_}
-use mathlib.Core.Bool.{Bool, true, false, _||_}
-use native.Mathlib.Nat.{add-mul, mul-le-mul, mul-le-mul-right, le-trans, div-add-mod'}
+use mathlib.Core.Bool.{Bool, true, false, cond, _||_}
+use native.Mathlib.Nat.{zero-add, add-mul, mul-le-mul, mul-le-mul-right, le-trans, div-add-mod', div-le-self}
 use native.Mathlib.Omega.{arith}
 use lib.Dec.{eqb}
 use lib.IntN.{ℤ, pos, natAbs, _-ℤ_, _*ℤ_}
 use lib.ListN.{getD}
+use Rattle.order.proofs.Tests.{neither-left, neither-right}
 use Rattle.integers.specs.Lists.{tab}
 use Rattle.integers.specs.Sum.{ofZ+, ofN+, sumZ, sumN}
 use Rattle.integers.proofs.Sum.{sum-ext, sum-le}
 use Rattle.integers.proofs.Written.{tab-at}
-use Rattle.evc.specs.Tiles.{sign, coefficient, share, rounded, tileSum, tileNumber, tile, tileSide, satdTotal}
+use Rattle.evc.specs.Tiles.{sign, coefficient, share, rounded, tileSum, tileNumber, tile, multiples, tileSide, satdTotal}
 use Rattle.evc.specs.Answers.{refused}
 use Rattle.evc.specs.Tests.{first, reply, outside}
 use Rattle.evc.specs.Planes.{Block}
@@ -25,6 +27,7 @@ use Rattle.integers.proofs.Parts.{abs-dif-le}
 use Rattle.planes.specs.Blocks.{cell, rest}
 use Rattle.planes.proofs.Replies.{Alike, dif-alike, at-size, at-depth, at-area, at-second, at-rest}
 use Rattle.diff.specs.Small.{Tested, apartFrom}
+use Rattle.satd.specs.Sides.{Side}
 
 -- ---- laws of the definitions
 -- tiles whose differences agree have one number
@@ -41,6 +44,45 @@ number-ext n d e h =
         sum-ext ofZ+ n (λ j. sumZ n (λ i. d j i *ℤ sign a j *ℤ sign b i)) (λ j. sumZ n (λ i. e j i *ℤ sign a j *ℤ sign b i))
         (λ j p. sum-ext ofZ+ n (λ i. d j i *ℤ sign a j *ℤ sign b i) (λ i. e j i *ℤ sign a j *ℤ sign b i)
         (λ i q. ap (λ (z : ℤ). z *ℤ sign a j *ℤ sign b i) (h j i p q)))
+
+-- ---- sides
+-- the tiles that a side holds end inside it
+pub tile-ends : (n h v : ℕ) → v < h / n → v * n + n ≤ h
+tile-ends n h v p =
+    let e = div-add-mod' h n in
+    let f : (v + 1) * n ≤ h / n * n = mul-le-mul-right n (omega arith) in
+    let g = add-mul v 1 n in
+    omega arith
+
+pub side-some : {n : ℕ} → Side n → 1 ≤ n
+side-some (inl e) = omega arith
+side-some (inr (inl e)) = omega arith
+side-some (inr (inr e)) = omega arith
+
+-- the largest number of a tile whose differences are at most 16383 in size
+pub side-most : {n : ℕ} → Side n → n * (n * (n * (n * 16383))) ≤ 67104768
+side-most (inl e) = rw e (omega arith)
+side-most (inr (inl e)) = rw e (omega arith)
+side-most (inr (inr e)) = rw e (omega arith)
+
+-- a side holds one tile of its own
+pub one-tile : {n : ℕ} → Side n → 0 < n / n
+one-tile (inl e) = rw e (omega arith)
+one-tile (inr (inl e)) = rw e (omega arith)
+one-tile (inr (inr e)) = rw e (omega arith)
+
+pub side-is : (w h : ℕ) → Side (tileSide w h)
+unfolding tileSide
+side-is w h = go (multiples 8 w h) (multiples 4 w h)
+  where
+    go : (x y : Bool) → Side (cond x 8 (cond y 4 2))
+    go true y = inl refl
+    go false true = inr (inl refl)
+    go false false = inr (inr refl)
+
+-- a block's side holds at most 64 of them
+pub side-count : (n w : ℕ) → w ≤ 64 → w / n ≤ 64
+side-count n w p = le-trans (div-le-self w n) p
 
 module _ {w h : ℕ} {a : List ℕ} {s t : ℕ} {b : List ℕ} {s′ t′ : ℕ} (k : Tested w h a s t b s′ t′) where
   -- ---- parts of tested blocks: n columns from x on, and n rows from y on
@@ -61,7 +103,7 @@ module _ {w h : ℕ} {a : List ℕ} {s t : ℕ} {b : List ℕ} {s′ t′ : ℕ}
         };
   }
 
-  pub tested-rows : (y n : ℕ) → 1 ≤ n → y + n ≤ h → Tested w n a (s + y * t) t b (s′ + y * t′) t′
+  tested-rows : (y n : ℕ) → 1 ≤ n → y + n ≤ h → Tested w n a (s + y * t) t b (s′ + y * t′) t′
   unfolding cell
   tested-rows y n o p =
       let c : (y + (n - 1)) * t ≤ (h - 1) * t = mul-le-mul-right t (omega arith) in
@@ -90,72 +132,89 @@ module _ {w h : ℕ} {a : List ℕ} {s t : ℕ} {b : List ℕ} {s′ t′ : ℕ}
       abs-dif-le 16383 (cell 0 a s t j i) (cell 0 b s′ t′ j i) (omega (arith, k .small .first j i m q)) (omega (arith, k .small .second j i m q))
 
   -- so no tile's number is above this
-  pub tile-most : (n v u : ℕ) → v * n + n ≤ h → u * n + n ≤ w → tileNumber n (tile n (apartFrom a s t b s′ t′) v u) ≤ n * (n * (n * (n * 16383)))
-  tile-most n v u p q =
-      number-most n 16383 (tile n (apartFrom a s t b s′ t′) v u) (λ j i m r. tested-most (v * n + j) (u * n + i) (omega arith) (omega arith))
+  at-most : (n v u : ℕ) → v < h / n → u < w / n → tileNumber n (tile n (apartFrom a s t b s′ t′) v u) ≤ n * (n * (n * (n * 16383)))
+  at-most n v u p q =
+      number-most n 16383 (tile n (apartFrom a s t b s′ t′) v u)
+      (λ j i m r. tested-most (v * n + j) (u * n + i) (omega (arith, tile-ends n h v p)) (omega (arith, tile-ends n w u q)))
 
-  -- nor the numbers of a row of at most 64 tiles
-  pub tiles-most :
-      (n v k : ℕ) → v * n + n ≤ h → ((u : ℕ) → u < k → u * n + n ≤ w) → k ≤ 64 →
-      sumN k (λ u. tileNumber n (tile n (apartFrom a s t b s′ t′) v u)) ≤ 64 * (n * (n * (n * (n * 16383))))
-  tiles-most n v k p q r =
-      le-trans (sum-le k (n * (n * (n * (n * 16383)))) (λ u. tileNumber n (tile n (apartFrom a s t b s′ t′) v u)) (λ u m. tile-most n v u p (q u m)))
-      (mul-le-mul-right (n * (n * (n * (n * 16383)))) r)
+  module _ {n : ℕ} (side : Side n) where
+    pub tile-most : (v u : ℕ) → v < h / n → u < w / n → tileNumber n (tile n (apartFrom a s t b s′ t′) v u) ≤ 67104768
+    tile-most v u p q = le-trans (at-most n v u p q) (side-most side)
+
+    -- nor the numbers of a row of tiles
+    pub tiles-most : (v : ℕ) → v < h / n → sumN (w / n) (λ u. tileNumber n (tile n (apartFrom a s t b s′ t′) v u)) ≤ 4294705152
+    tiles-most v p =
+        le-trans (sum-le (w / n) 67104768 (λ u. tileNumber n (tile n (apartFrom a s t b s′ t′) v u)) (λ u m. tile-most v u p m))
+        (mul-le-mul-right 67104768 (side-count n w (k .blocks .narrow)))
 
   -- nor the total of at most k by k tiles
-  pub satd-most :
-      (n k : ℕ) → ((v : ℕ) → v < h / n → v * n + n ≤ h) → ((u : ℕ) → u < w / n → u * n + n ≤ w) → h / n ≤ k → w / n ≤ k →
-      satdTotal n w h (apartFrom a s t b s′ t′) ≤ k * (k * (n * (n * (n * (n * 16383)))))
+  satd-most : (n k : ℕ) → h / n ≤ k → w / n ≤ k → satdTotal n w h (apartFrom a s t b s′ t′) ≤ k * (k * (n * (n * (n * (n * 16383)))))
   unfolding satdTotal
-  satd-most n k p q x y =
+  satd-most n k x y =
       let c = n * (n * (n * (n * 16383))) in
       le-trans
       (sum-le (h / n) (w / n * c) (λ v. sumN (w / n) (λ u. tileNumber n (tile n (apartFrom a s t b s′ t′) v u)))
-      (λ v m. sum-le (w / n) c (λ u. tileNumber n (tile n (apartFrom a s t b s′ t′) v u)) (λ u l. tile-most n v u (p v m) (q u l))))
+      (λ v m. sum-le (w / n) c (λ u. tileNumber n (tile n (apartFrom a s t b s′ t′) v u)) (λ u l. at-most n v u m l)))
       (mul-le-mul x (mul-le-mul-right c y))
 
+  -- so the total of tiles of any side fits 32 bits
+  pub satd-fits : (n : ℕ) → Side n → satdTotal n w h (apartFrom a s t b s′ t′) < 2 ^ 32
+  satd-fits n (inl e) = rw e (omega (arith, satd-most 8 8 (omega (arith, k .blocks .low)) (omega (arith, k .blocks .narrow))))
+  satd-fits n (inr (inl e)) = rw e (omega (arith, satd-most 4 16 (omega (arith, k .blocks .low)) (omega (arith, k .blocks .narrow))))
+  satd-fits n (inr (inr e)) = rw e (omega (arith, satd-most 2 32 (omega (arith, k .blocks .low)) (omega (arith, k .blocks .narrow))))
+
+-- n rows from y on, where the second block is packed
+pub packed-rows :
+    {w h : ℕ} {a : List ℕ} {s t : ℕ} {b : List ℕ} → Tested w h a s t b 0 w → (y n : ℕ) → 1 ≤ n → y + n ≤ h → Tested w n a (s + y * t) t b (y * w) w
+packed-rows {w} {h} {a} {s} {t} {b} k y n o p =
+    subst (λ (q : ℕ). Tested w n a (s + y * t) t b q w) (zero-add (y * w)) (tested-rows k y n o p)
+
 -- ---- what a tile's differences are
-module _ (n : ℕ) (a : List ℕ) (s t : ℕ) (b : List ℕ) (s′ t′ : ℕ) where
-  made : (d : ℕ → ℕ → ℤ) (j i : ℕ) → j < n → i < n → entry (tab n (λ j. tab n (d j))) j i ≡ d j i
-  made d j i p q = ap (λ (x : List ℤ). getD x i (pos 0)) (tab-at n (λ j. tab n (d j)) j [] p) ∙ tab-at n (d j) i (pos 0) q
+made : (n : ℕ) (d : ℕ → ℕ → ℤ) (j i : ℕ) → j < n → i < n → entry (tab n (λ j. tab n (d j))) j i ≡ d j i
+made n d j i p q = ap (λ (x : List ℤ). getD x i (pos 0)) (tab-at n (λ j. tab n (d j)) j [] p) ∙ tab-at n (d j) i (pos 0) q
 
-  none : (t j : ℕ) → (0 * n + j) * t ≡ j * t
-  none t j = let e : 0 * n + j ≡ j = omega arith in ap (λ (m : ℕ). m * t) e
+-- a tile's number, from the differences that were handed to it
+pub number-of : (n : ℕ) (d : ℕ → ℕ → ℤ) (r : ℕ) (m : List (List ℤ)) → m ≡ tab n (λ j. tab n (d j)) → r ≡ tileNumber n (entry m) → r ≡ tileNumber n d
+number-of n d r m e f =
+    f ∙ ap (λ (x : List (List ℤ)). tileNumber n (entry x)) e ∙ number-ext n (entry (tab n (λ j. tab n (d j)))) d (λ j i p q. made n d j i p q)
 
-  -- a tile of the first row of tiles, from the differences that were handed to it
-  pub tile-is :
-      (u r : ℕ) (m : List (List ℤ)) → m ≡ tab n (λ j. tab n (apartFrom a (s + u * n) t b (s′ + u * n) t′ j)) → r ≡ tileNumber n (entry m) →
-      r ≡ tileNumber n (tile n (apartFrom a s t b s′ t′) 0 u)
-  unfolding apartFrom cell
-  tile-is u r m e f =
-      f ∙ ap (λ (x : List (List ℤ)). tileNumber n (entry x)) e
-      ∙ number-ext n (entry (tab n (λ j. tab n (apartFrom a (s + u * n) t b (s′ + u * n) t′ j)))) (tile n (apartFrom a s t b s′ t′) 0 u)
-      (λ j i p q. made (apartFrom a (s + u * n) t b (s′ + u * n) t′) j i p q ∙ ap₂ (λ (x y : ℕ). pos (getD a x 0) -ℤ pos (getD b y 0)) (place s t j i) (place s′ t′ j i))
-    where
-      place : (s t j i : ℕ) → s + u * n + j * t + i ≡ s + (0 * n + j) * t + (u * n + i)
-      place s t j i = let e = none t j in omega arith
+-- ---- where a tile stands
+none : (n t j : ℕ) → (0 * n + j) * t ≡ j * t
+none n t j = let e : 0 * n + j ≡ j = omega arith in ap (λ (m : ℕ). m * t) e
 
-  -- a row of tiles further down
-  pub tiles-are :
-      (v k r : ℕ) → r ≡ sumN k (λ u. tileNumber n (tile n (apartFrom a (s + v * n * t) t b (s′ + v * n * t′) t′) 0 u)) →
-      r ≡ sumN k (λ u. tileNumber n (tile n (apartFrom a s t b s′ t′) v u))
-  unfolding apartFrom cell
-  tiles-are v k r e =
-      e
-      ∙ sum-ext ofN+ k (λ u. tileNumber n (tile n (apartFrom a (s + v * n * t) t b (s′ + v * n * t′) t′) 0 u)) (λ u. tileNumber n (tile n (apartFrom a s t b s′ t′) v u))
-      (λ u m. number-ext n (tile n (apartFrom a (s + v * n * t) t b (s′ + v * n * t′) t′) 0 u) (tile n (apartFrom a s t b s′ t′) v u)
-      (λ j i p q. ap₂ (λ (x y : ℕ). pos (getD a x 0) -ℤ pos (getD b y 0)) (place s t j (u * n + i)) (place s′ t′ j (u * n + i))))
-    where
-      place : (s t j x : ℕ) → s + v * n * t + (0 * n + j) * t + x ≡ s + (v * n + j) * t + x
-      place s t j x = let e = none t j in let d = add-mul (v * n) j t in omega arith
+-- a tile of the first row of tiles
+pub tile-is :
+    (n : ℕ) (a : List ℕ) (s t : ℕ) (b : List ℕ) (s′ t′ u r : ℕ) → r ≡ tileNumber n (apartFrom a (s + u * n) t b (s′ + u * n) t′) →
+    r ≡ tileNumber n (tile n (apartFrom a s t b s′ t′) 0 u)
+unfolding apartFrom cell
+tile-is n a s t b s′ t′ u r f =
+    f
+    ∙ number-ext n (apartFrom a (s + u * n) t b (s′ + u * n) t′) (tile n (apartFrom a s t b s′ t′) 0 u)
+    (λ j i p q. ap₂ (λ (x y : ℕ). pos (getD a x 0) -ℤ pos (getD b y 0)) (place s t j i) (place s′ t′ j i))
+  where
+    place : (s t j i : ℕ) → s + u * n + j * t + i ≡ s + (0 * n + j) * t + (u * n + i)
+    place s t j i = let e = none n t j in omega arith
+
+-- a row of tiles further down, where the second block is packed
+pub tiles-are :
+    (n : ℕ) (a : List ℕ) (s t : ℕ) (b : List ℕ) (w v k r : ℕ) → r ≡ sumN k (λ u. tileNumber n (tile n (apartFrom a (s + v * n * t) t b (v * n * w) w) 0 u)) →
+    r ≡ sumN k (λ u. tileNumber n (tile n (apartFrom a s t b 0 w) v u))
+unfolding apartFrom cell
+tiles-are n a s t b w v k r e =
+    e
+    ∙ sum-ext ofN+ k (λ u. tileNumber n (tile n (apartFrom a (s + v * n * t) t b (v * n * w) w) 0 u)) (λ u. tileNumber n (tile n (apartFrom a s t b 0 w) v u))
+    (λ u m. number-ext n (tile n (apartFrom a (s + v * n * t) t b (v * n * w) w) 0 u) (tile n (apartFrom a s t b 0 w) v u)
+    (λ j i p q. ap₂ (λ (x y : ℕ). pos (getD a x 0) -ℤ pos (getD b y 0)) (place s t j (u * n + i)) (packed j (u * n + i))))
+  where
+    place : (s t j x : ℕ) → s + v * n * t + (0 * n + j) * t + x ≡ s + (v * n + j) * t + x
+    place s t j x = let e = none n t j in let d = add-mul (v * n) j t in omega arith
+
+    packed : (j x : ℕ) → v * n * w + (0 * n + j) * w + x ≡ 0 + (v * n + j) * w + x
+    packed j x = let e = none n w j in let d = add-mul (v * n) j w in omega arith
 
 -- ---- blocks that are read alike have one total
 tile-inside : (n h v j : ℕ) → v < h / n → j < n → v * n + j < h
-tile-inside n h v j p q =
-    let e = div-add-mod' h n in
-    let f : (v + 1) * n ≤ h / n * n = mul-le-mul-right n (omega arith) in
-    let g = add-mul v 1 n in
-    omega arith
+tile-inside n h v j p q = omega (arith, tile-ends n h v p)
 
 pub satd-alike : {w h : ℕ} {a a′ b b′ : Block} → Alike w h a a′ → Alike w h b b′ → (n : ℕ) → satdTotal n w h (difference a b) ≡ satdTotal n w h (difference a′ b′)
 unfolding satdTotal
@@ -166,6 +225,10 @@ satd-alike {w} {h} {a} {a′} {b} {b′} p q n =
     (λ j i r s. dif-alike p q (v * n + j) (u * n + i) (tile-inside n h v j m r) (tile-inside n w u i k s))))
 
 -- ---- how a call of SATD ends
+or-either : {C : Type 0} (s t : Bool) → s || t ≡ true → (s ≡ true → C) → (s ≡ false → t ≡ true → C) → C
+or-either true t e f g = f refl
+or-either false t e f g = g refl e
+
 module _ (w h depth : ℕ) (a b : Block) where
   abbrev uneven : ℕ → Bool
   uneven x = outside 2 64 x || eqb (x % 2) 1
@@ -186,13 +249,14 @@ module _ (w h depth : ℕ) (a b : Block) where
     satd-depth f = satd-of 4 (at-depth (uneven w) (uneven h) depth (a .area) (b .area) (sampleTests w h a b) e f)
 
     module _ (f : outside 8 14 depth ≡ false) where
-      pub satd-area : a .area ≡ true → refused 5 ≡ satdReply w h depth a b
-      satd-area g = satd-of 5 (at-area (uneven w) (uneven h) depth (a .area) (b .area) (sampleTests w h a b) e f g)
+      pub satd-area : a .area || b .area ≡ true → refused 5 ≡ satdReply w h depth a b
+      satd-area g =
+          or-either (a .area) (b .area) g (λ p. satd-of 5 (at-area (uneven w) (uneven h) depth (a .area) (b .area) (sampleTests w h a b) e f p))
+          (λ p q. satd-of 5 (at-second (uneven w) (uneven h) depth (a .area) (b .area) (sampleTests w h a b) e f p q))
 
-      module _ (g : a .area ≡ false) where
-        pub satd-second : b .area ≡ true → refused 5 ≡ satdReply w h depth a b
-        satd-second k = satd-of 5 (at-second (uneven w) (uneven h) depth (a .area) (b .area) (sampleTests w h a b) e f g k)
-
-        pub satd-rest : b .area ≡ false → rest w h a b satdValue ≡ satdReply w h depth a b
-        unfolding rest
-        satd-rest k = satd-of (first (sampleTests w h a b)) (at-rest (uneven w) (uneven h) depth (a .area) (b .area) (sampleTests w h a b) e f g k)
+      pub satd-rest : a .area || b .area ≡ false → rest w h a b satdValue ≡ satdReply w h depth a b
+      unfolding rest
+      satd-rest g =
+          satd-of (first (sampleTests w h a b))
+          (at-rest (uneven w) (uneven h) depth (a .area) (b .area) (sampleTests w h a b) e f (neither-left (a .area) (b .area) g)
+          (neither-right (a .area) (b .area) g))

@@ -2,6 +2,7 @@
 mod any;
 mod rows;
 mod satd;
+mod sums;
 mod tiles2;
 mod tiles4;
 mod tiles8;

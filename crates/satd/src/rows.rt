@@ -24,23 +24,21 @@ fn any_row(a: &[u16], p: usize, b: &[u16], q: usize, w: usize) -> u16
     any
 }
 
-// The OR of two blocks, row by row.
+// The OR of two blocks, row by row. The second is packed.
 pub(crate) fn any_rows(
     a: &[u16],
     a_at: usize,
     a_stride: usize,
     b: &[u16],
-    b_at: usize,
-    b_stride: usize,
     w: usize,
     h: usize,
 ) -> u16
-    requires { ⌜ TwoBlocks w h (length (now a)) «a_at» «a_stride» (length (now b)) «b_at» «b_stride» ⌝ }
-    ensures { λ r. ⌜ r ≡ blocksMarks w h (now (a .entry)) «a_at» «a_stride» (now (b .entry)) «b_at» «b_stride» ⌝ }
+    requires { ⌜ TwoBlocks w h (length (now a)) «a_at» «a_stride» (length (now b)) 0 w ⌝ }
+    ensures { λ r. ⌜ r ≡ blocksMarks w h (now (a .entry)) «a_at» «a_stride» (now (b .entry)) 0 w ⌝ }
 {
     let mut any: u16 = 0;
     for j in 0..h {
-        any = any | any_row(a, a_at + j * a_stride, b, b_at + j * b_stride, w);
+        any = any | any_row(a, a_at + j * a_stride, b, j * w, w);
     }
     any
 }

@@ -1,61 +1,36 @@
 // SATD, after the Rust's evce_satd_16b. Document 01, "Distortion".
 // Differs from the Rust in: a call that breaks a test is refused, odd sides too; the depth is an argument.
 ghost use mathlib.Core.Path.{_≡_};
-ghost use Prim.Native.Nat.{_-_, _^_, _<_, _≤_};
+ghost use Prim.Native.Nat.{_≤_};
 ghost use lib.ListN.{length};
 ghost use Rattle.evc.specs.Answers.{distortionReading};
-ghost use Rattle.evc.specs.Tiles.{tileSide, satdTotal};
 ghost use Rattle.evc.specs.Calls.{satd16b};
 ghost use Rattle.evc.specs.Planes.{planeOf};
 ghost use Rattle.planes.specs.Blocks.{TwoBlocks, strided};
-ghost use Rattle.diff.specs.Small.{Tested, apartFrom};
 ghost use Rattle.satd.specs.Rests.{satdLeft};
 use evc::Distortion;
 use evc::Refusal;
 
-// The tiles' numbers, added.
-fn total(
-    a: &[u16],
-    a_at: usize,
-    a_stride: usize,
-    b: &[u16],
-    b_at: usize,
-    b_stride: usize,
-    w: usize,
-    h: usize,
-) -> u64
-    requires { ⌜ Tested w h (now a) «a_at» «a_stride» (now b) «b_at» «b_stride» ⌝ }
-    ensures { λ r. ⌜ r ≡ satdTotal (tileSide w h) w h (apartFrom (now (a .entry)) «a_at» «a_stride» (now (b .entry)) «b_at» «b_stride») ⌝ }
-    ensures { λ r. ⌜ r < 2 ^ 32 ⌝ }
-{
-    match tiles::side(w, h) {
-        8 => crate::tiles8::total(a, a_at, a_stride, b, b_at, b_stride, w, h),
-        4 => crate::tiles4::total(a, a_at, a_stride, b, b_at, b_stride, w, h),
-        _ => crate::tiles2::total(a, a_at, a_stride, b, b_at, b_stride, w, h),
-    }
-}
-
-// Two blocks of samples, after all other tests: the samples are tested, and only then their differences are formed.
+// Two blocks of samples, after all other tests: the samples are tested, and only then their differences are formed. The second
+// block is packed.
 fn of_blocks(
     a: &[u16],
     a_at: usize,
     a_stride: usize,
     b: &[u16],
-    b_at: usize,
-    b_stride: usize,
     w: usize,
     h: usize,
     depth: u8,
 ) -> Distortion
-    requires { ⌜ TwoBlocks w h (length (now a)) «a_at» «a_stride» (length (now b)) «b_at» «b_stride» ⌝ }
+    requires { ⌜ TwoBlocks w h (length (now a)) «a_at» «a_stride» (length (now b)) 0 w ⌝ }
     requires { ⌜ (8 ≤ depth) × (depth ≤ 14) ⌝ }
-    ensures { λ r. ⌜ distortionReading r ≡ satdLeft w h depth (strided (now (a .entry)) «a_at» «a_stride» depth) (strided (now (b .entry)) «b_at» «b_stride» depth) ⌝ }
+    ensures { λ r. ⌜ distortionReading r ≡ satdLeft w h depth (strided (now (a .entry)) «a_at» «a_stride» depth) (strided (now (b .entry)) 0 w depth) ⌝ }
 {
-    let any = crate::any::any_block(a, a_at, a_stride, b, b_at, b_stride, w, h);
+    let any = crate::any::any_block(a, a_at, a_stride, b, w, h);
     if any >> depth != 0 {
         return Distortion::Refused(Refusal::Sample);
     }
-    let sum = total(a, a_at, a_stride, b, b_at, b_stride, w, h);
+    let sum = crate::sums::total(tiles::side(w, h), a, a_at, a_stride, b, w, h);
     let satd = (sum >> (depth - 8)) as u32;
     Distortion::Value(satd)
 }
@@ -80,11 +55,8 @@ pub fn evce_satd_16b(
     if planes::wrong_depth(depth) {
         return Distortion::Refused(Refusal::Depth);
     }
-    if planes::outside_plane(org.len(), width, height, stride, x, y, w, h) {
+    if planes::outside_plane(org.len(), width, height, stride, x, y, w, h) | (cur.len() < h * w) {
         return Distortion::Refused(Refusal::Area);
     }
-    if planes::outside_plane(cur.len(), w, h, w, 0, 0, w, h) {
-        return Distortion::Refused(Refusal::Area);
-    }
-    of_blocks(org, y * stride + x, stride, cur, 0, w, w, h, depth)
+    of_blocks(org, y * stride + x, stride, cur, w, h, depth)
 }

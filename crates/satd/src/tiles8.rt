@@ -1,12 +1,11 @@
-// The tiles of 8 by 8 of two blocks, and the sum of their numbers, after the loops of the Rust's evce_satd_16b. Document 01, "Distortion".
-// Differs from the Rust in: a tile's differences are handed to the tile by value.
+// The number of a tile of 8 by 8 of two blocks, after the Rust's evce_satd_16b. Document 01, "Distortion".
+// Differs from the Rust in: the tile's differences are handed to evc_had_8x8 by value.
 ghost use mathlib.Core.Path.{_≡_};
-ghost use Prim.Native.Nat.{_+_, _/_, _*_};
+ghost use Prim.Native.Nat.{_+_};
 ghost use lib.IntN.{pos, _-ℤ_};
 ghost use lib.ListN.{getD};
 ghost use Rattle.integers.specs.Lists.{tab};
-ghost use Rattle.integers.specs.Sum.{sumN};
-ghost use Rattle.evc.specs.Tiles.{tileNumber, tile, satdTotal};
+ghost use Rattle.evc.specs.Tiles.{tileNumber};
 ghost use Rattle.diff.specs.Small.{SmallRow, Tested, apartFrom};
 
 // One row of a tile's differences.
@@ -19,77 +18,22 @@ fn row(a: &[u16], p: usize, b: &[u16], q: usize) -> [i16; 8]
     out
 }
 
-// All of them.
-fn differences(
+// The tile's number, from all of them.
+pub(crate) fn number(
     a: &[u16],
     a_at: usize,
     a_stride: usize,
     b: &[u16],
     b_at: usize,
     b_stride: usize,
-) -> [[i16; 8]; 8]
+) -> u32
     requires { ⌜ Tested 8 8 (now a) «a_at» «a_stride» (now b) «b_at» «b_stride» ⌝ }
-    ensures { λ r. ⌜ r ≡ tab 8 (λ j. tab 8 (apartFrom (now (a .entry)) «a_at» «a_stride» (now (b .entry)) «b_at» «b_stride» j)) ⌝ }
+    ensures { λ r. ⌜ r ≡ tileNumber 8 (apartFrom (now (a .entry)) «a_at» «a_stride» (now (b .entry)) «b_at» «b_stride») ⌝ }
 {
     let mut out = [[0i16; 8]; 8];
     for j in 0..8 {
         let r = row(a, a_at + j * a_stride, b, b_at + j * b_stride);
         out[j] = r;
     }
-    out
-}
-
-// The numbers of a row of tiles, added.
-fn across(
-    a: &[u16],
-    a_at: usize,
-    a_stride: usize,
-    b: &[u16],
-    b_at: usize,
-    b_stride: usize,
-    w: usize,
-) -> u64
-    requires { ⌜ Tested w 8 (now a) «a_at» «a_stride» (now b) «b_at» «b_stride» ⌝ }
-    ensures { λ r. ⌜ r ≡ sumN (w / 8) (λ u. tileNumber 8 (tile 8 (apartFrom (now (a .entry)) «a_at» «a_stride» (now (b .entry)) «b_at» «b_stride») 0 u)) ⌝ }
-{
-    let mut sum: u64 = 0;
-    let n = w / 8;
-    for u in 0..n {
-        let x = u * 8;
-        let d = differences(a, a_at + x, a_stride, b, b_at + x, b_stride);
-        sum = sum + (hadamard::evc_had_8x8(d) as u64);
-    }
-    sum
-}
-
-// The numbers of all tiles, added row by row.
-pub(crate) fn total(
-    a: &[u16],
-    a_at: usize,
-    a_stride: usize,
-    b: &[u16],
-    b_at: usize,
-    b_stride: usize,
-    w: usize,
-    h: usize,
-) -> u64
-    requires { ⌜ Tested w h (now a) «a_at» «a_stride» (now b) «b_at» «b_stride» ⌝ }
-    ensures { λ r. ⌜ r ≡ satdTotal 8 w h (apartFrom (now (a .entry)) «a_at» «a_stride» (now (b .entry)) «b_at» «b_stride») ⌝ }
-{
-    let mut sum: u64 = 0;
-    let n = h / 8;
-    for v in 0..n {
-        let y = v * 8;
-        sum = sum
-            + across(
-                a,
-                a_at + y * a_stride,
-                a_stride,
-                b,
-                b_at + y * b_stride,
-                b_stride,
-                w,
-            );
-    }
-    sum
+    hadamard::evc_had_8x8(out)
 }

@@ -1,24 +1,27 @@
 -- `diff_rows` meets its contract. Assumes nothing.
-use mathlib.Core.Path.{_≡_, sym, _∙_}
-use Prim.Native.Nat.{_+_, _*_, _-_, _≤_}
+use mathlib.Core.Path.{_≡_, sym, ap, _∙_}
+use mathlib.Core.List.{List}
+use Prim.Native.Nat.{ℕ, _+_, _*_, _-_, _≤_}
+use native.Mathlib.Nat.{zero-add}
 use native.Mathlib.Omega.{arith}
-use lib.ListN.{length}
+use lib.IntN.{ℤ, pos, _-ℤ_}
+use lib.ListN.{length, getD}
 use Rattle.integers.specs.Lists.{tab}
 use Rattle.integers.proofs.Written.{tab-ext, grid-at}
 use Rattle.integers.proofs.Grid.{Wrote, wrote-start, wrote-row, wrote-end, wrote-long, row-room, row-long}
 use Rattle.evc.specs.Differences.{diffAt}
 use Rattle.planes.specs.Blocks.{cell}
 use Rattle.diff.specs.Small.{SmallRow, apartFrom}
-use Rattle.diff.proofs.Tested.{small-one, small-two}
+use Rattle.diff.proofs.Tested.{small-one, small-packed}
 use Rattle.diff.proofs.diff.diff_rows.Statement.{statement}
 use Rattle.diff.proofs.diff.diff_rows.Tie as tie
 
 abbrev Inv-loop : tie.InvT-loop
-Inv-loop a a-at a-stride b b-at b-stride w h out₀ j₀ out j =
-    Wrote w h (diffAt w (apartFrom a a-at a-stride b b-at b-stride)) out₀ out j
+Inv-loop a a-at a-stride b w h out₀ j₀ out j =
+    Wrote w h (diffAt w (apartFrom a a-at a-stride b 0 w)) out₀ out j
 
 abbrev μ-loop : tie.MeasureT-loop
-μ-loop a a-at a-stride b b-at b-stride w h out₀ j₀ out j = h - j
+μ-loop a a-at a-stride b w h out₀ j₀ out j = h - j
 
 loop-holds : tie.Need-loop-holds Inv-loop μ-loop
 loop-holds c = wrote-start (c .before .before .pre .room)
@@ -37,8 +40,8 @@ add-to c = omega (arith, room c, wrote-long (c .before .loop .inv), c .before .b
 one : (c : tie.In-loop Inv-loop μ-loop) → let a = c .before .before .before .before .args in SmallRow (a .w) (a .a .now) (a .a-at + c .before .loop .j * a .a-stride)
 one c = let k = c .before .before .before .before .pre in small-one (k .blocks) (k .small) (c .loop-test .taken)
 
-two : (c : tie.In-loop Inv-loop μ-loop) → let a = c .before .before .before .before .args in SmallRow (a .w) (a .b .now) (a .b-at + c .before .loop .j * a .b-stride)
-two c = let k = c .before .before .before .before .pre in small-two (k .blocks) (k .small) (c .loop-test .taken)
+two : (c : tie.In-loop Inv-loop μ-loop) → let a = c .before .before .before .before .args in SmallRow (a .w) (a .b .now) (c .before .loop .j * a .w)
+two c = let k = c .before .before .before .before .pre in small-packed (k .blocks) (k .small) (c .loop-test .taken)
 
 mul-diff-row : tie.Need-mul-diff-row Inv-loop μ-loop
 mul-diff-row c = omega (arith, one c .inside, c .before .before .before .before .good)
@@ -47,13 +50,7 @@ add-diff-row : tie.Need-add-diff-row Inv-loop μ-loop
 add-diff-row c = omega (arith, one c .inside, c .before .before .before .before .good)
 
 mul-diff-row-2 : tie.Need-mul-diff-row-2 Inv-loop μ-loop
-mul-diff-row-2 c = omega (arith, two c .inside, c .before .before .before .before .good)
-
-add-diff-row-2 : tie.Need-add-diff-row-2 Inv-loop μ-loop
-add-diff-row-2 c = omega (arith, two c .inside, c .before .before .before .before .good)
-
-mul-diff-row-3 : tie.Need-mul-diff-row-3 Inv-loop μ-loop
-mul-diff-row-3 c = omega (arith, room c, wrote-long (c .before .loop .inv), c .before .before .before .before .good)
+mul-diff-row-2 c = omega (arith, room c, wrote-long (c .before .loop .inv), c .before .before .before .before .good)
 
 sub-diff-row : tie.Need-sub-diff-row Inv-loop μ-loop
 sub-diff-row c = omega arith
@@ -69,16 +66,13 @@ diff-row-requires c κs = ((one (c .before), two (c .before)), row-long (c .befo
 
 -- what the row's differences are, by their places in the output
 placed :
-    (c : tie.After-diff-row Inv-loop μ-loop) →
-    let a = c .before .before .before .before .before .before .args in
-    let j = c .before .before .before .loop .j in
-    c .diff-row .last .1 .1 .1 .1 .1 .0 ≡ tab (a .w) (λ i. diffAt (a .w) (apartFrom (a .a .now) (a .a-at) (a .a-stride) (a .b .now) (a .b-at) (a .b-stride)) (j * a .w + i))
+    (r : List ℤ) (a : List ℕ) (s t : ℕ) (b : List ℕ) (w j : ℕ) → r ≡ tab w (λ i. pos (getD a (s + j * t + i) 0) -ℤ pos (getD b (j * w + i) 0)) →
+    r ≡ tab w (λ i. diffAt w (apartFrom a s t b 0 w) (j * w + i))
 unfolding diffAt apartFrom cell
-placed c =
-    let a = c .before .before .before .before .before .before .args in
-    let j = c .before .before .before .loop .j in
-    let d = apartFrom (a .a .now) (a .a-at) (a .a-stride) (a .b .now) (a .b-at) (a .b-stride) in
-    c .diff-row .ensures ∙ tab-ext (a .w) (d j) (λ i. diffAt (a .w) d (j * a .w + i)) (λ i m. sym (grid-at d j i (a .w) m))
+placed r a s t b w j e =
+    let d = apartFrom a s t b 0 w in
+    e ∙ ap (λ (q : ℕ). tab w (λ i. pos (getD a (s + j * t + i) 0) -ℤ pos (getD b (q + i) 0))) (sym (zero-add (j * w)))
+    ∙ tab-ext w (d j) (λ i. diffAt w d (j * w + i)) (λ i m. sym (grid-at d j i w m))
 
 add-j : tie.Need-add-j Inv-loop μ-loop
 add-j c = omega arith
@@ -88,7 +82,10 @@ loop-less c = omega arith
 
 loop-again : tie.Need-loop-again Inv-loop μ-loop
 loop-again c =
-    wrote-row (c .before .before .before .before .loop .inv) (c .before .before .before .loop-test .taken) (c .before .diff-row .last .1 .1 .1 .1 .1 .0) (placed (c .before))
+    let a = c .before .before .before .before .before .before .before .args in
+    let r = c .before .diff-row .last .1 .1 .1 .1 .1 .0 in
+    wrote-row (c .before .before .before .before .loop .inv) (c .before .before .before .loop-test .taken) r
+    (placed r (a .a .now) (a .a-at) (a .a-stride) (a .b .now) (a .w) (c .before .before .before .before .loop .j) (c .before .diff-row .ensures))
 
 same-length : tie.Need-same-length Inv-loop μ-loop
 same-length c = wrote-long (c .before .loop .inv)
@@ -108,8 +105,6 @@ diff-rows-spec =
     mul-diff-row
     add-diff-row
     mul-diff-row-2
-    add-diff-row-2
-    mul-diff-row-3
     sub-diff-row
     part-diff-row-start
     part-diff-row-end

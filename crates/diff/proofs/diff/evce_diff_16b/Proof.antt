@@ -1,12 +1,14 @@
 -- `evce_diff_16b` meets its contract: each refusal is the first broken test, and what is left is read alike. Assumes nothing.
-use mathlib.Core.Path.{_≡_, refl, sym, _∙_}
-use mathlib.Core.Bool.{false, _||_}
-use Prim.Native.Nat.{ℕ, _+_, _*_, _-_, _^_}
+use mathlib.Core.Path.{_≡_, refl, sym, ap, _∙_}
+use mathlib.Core.Bool.{Bool, false, _||_}
+use Prim.Native.Nat.{ℕ, _+_, _*_, _-_, _^_, _≤_}
 use native.Mathlib.Nat.{mul-le-mul}
 use native.Mathlib.Omega.{arith}
 use borrow.Author.Needs.{needs}
+use borrow.Author.Tests.{ltb-false}
 use lib.Dec.{ltb}
 use lib.ListN.{length}
+use Rattle.order.proofs.Tests.{neither-left, neither-right}
 use Rattle.evc.specs.Tests.{outside}
 use Rattle.evc.specs.Planes.{Block, inPlane, inPacked, planeOf}
 use Rattle.evc.proofs.Tests.{outside-no}
@@ -14,7 +16,8 @@ use Rattle.planes.specs.Areas.{outsidePlane}
 use Rattle.planes.specs.Blocks.{TwoBlocks}
 use Rattle.planes.proofs.Planes.{is-inside, rows-inside, plane-alike}
 use Rattle.planes.proofs.SmallSides.{logs-small, side-small, shifted, shifted-is}
-use Rattle.diff.proofs.Differing.{differed-alike, diff-size, diff-depth, diff-area, diff-second, diff-room, diff-rest}
+use Rattle.diff.proofs.Differing.{differed-alike, diff-size, diff-depth, diff-area, diff-rest}
+use Rattle.diff.proofs.Tested.{areas-found}
 use Rattle.diff.proofs.diff.evce_diff_16b.Statement.{statement}
 use Rattle.diff.proofs.diff.evce_diff_16b.Tie as tie
 
@@ -31,21 +34,6 @@ sized c = sym (c .before .logs .ensures) ∙ c .if1 .left
 
 deep : (c : tie.Else2) → outside 8 14 (c .before .before .before .before .before .before .args .depth) ≡ false
 deep c = sym (c .before .wrong-depth .ensures) ∙ c .if2 .left
-
-one :
-    (c : tie.Else3) →
-    let s = c .before .before .before .before in
-    let a = s .before .before .before .before .args in
-    outsidePlane (length (a .org .now)) (a .width) (a .height) (a .stride) (a .x) (a .y) (shifted (a .log2-w)) (shifted (a .log2-h)) ≡ false
-one c = sym (c .before .outside-plane .ensures) ∙ c .if3 .left
-
-two :
-    (c : tie.Else4) →
-    let s = c .before .before .before .before .before .before in
-    let a = s .before .before .before .before .args in
-    outsidePlane (length (a .cur .now)) (shifted (a .log2-w)) (shifted (a .log2-h)) (shifted (a .log2-w)) 0 0 (shifted (a .log2-w)) (shifted (a .log2-h))
-    ≡ false
-two c = sym (c .before .outside-plane2 .ensures) ∙ c .if4 .left
 
 logs-requires : tie.Need-logs-requires
 logs-requires c κs = search needs
@@ -78,96 +66,107 @@ returns-2 c =
     diff-depth (a .log2-w) (a .log2-h) (a .depth) (A (s .before .before)) (B (s .before .before)) (a .diff .now) (shifted (a .log2-w))
     (shifted (a .log2-h)) (wide s) (high s) (sized s) (sym (c .before .wrong-depth .ensures) ∙ c .if2 .taken)
 
+-- the sides are small
+small :
+    (c : tie.Else1) →
+    let a = c .before .before .before .before .args in
+    ((1 ≤ shifted (a .log2-w)) × (shifted (a .log2-w) ≤ 64)) × ((1 ≤ shifted (a .log2-h)) × (shifted (a .log2-h) ≤ 64))
+small c =
+    let a = c .before .before .before .before .args in
+    let k = logs-small (a .log2-w) (a .log2-h) (sized c) in
+    (side-small (a .log2-w) (shifted (a .log2-w)) (wide c) (k .0), side-small (a .log2-h) (shifted (a .log2-h)) (high c) (k .1))
+
+mul-n : tie.Need-mul-n
+mul-n c =
+    let k = small (c .before .before) in
+    let p = mul-le-mul (k .1 .1) (k .0 .1) in
+    omega arith
+
 outside-plane-requires : tie.Need-outside-plane-requires
 outside-plane-requires c κs = search needs
 
-returns-3 : tie.Need-returns-3
-returns-3 c =
-    let s = c .before .before .before .before in
+-- what the areas' tests find is what the definition asks
+areas :
+    (c : tie.After-outside-plane) →
+    let s = c .before .before .before in
     let a = s .before .before .before .before .args in
-    diff-area (a .log2-w) (a .log2-h) (a .depth) (A (s .before .before)) (B (s .before .before)) (a .diff .now) (shifted (a .log2-w))
-    (shifted (a .log2-h)) (wide s) (high s) (sized s) (deep (c .before .before))
-    (sym (c .before .outside-plane .ensures) ∙ c .if3 .taken)
-
-outside-plane-requires-2 : tie.Need-outside-plane-requires-2
-outside-plane-requires-2 c κs = search needs
-
-returns-4 : tie.Need-returns-4
-returns-4 c =
-    let s = c .before .before .before .before .before .before in
-    let a = s .before .before .before .before .args in
-    diff-second (a .log2-w) (a .log2-h) (a .depth) (A (s .before .before)) (B (s .before .before)) (a .diff .now) (shifted (a .log2-w))
-    (shifted (a .log2-h)) (wide s) (high s) (sized s) (deep (c .before .before .before .before))
-    (one (c .before .before)) (sym (c .before .outside-plane2 .ensures) ∙ c .if4 .taken)
-
--- both blocks lie inside their buffers
-blocks :
-    (c : tie.Else4) →
-    let s = c .before .before .before .before .before .before in
-    let a = s .before .before .before .before .args in
-    TwoBlocks (shifted (a .log2-w)) (shifted (a .log2-h)) (length (a .org .now)) (a .y * a .stride + a .x) (a .stride) (length (a .cur .now)) 0
-    (shifted (a .log2-w))
-blocks c =
-    let s = c .before .before .before .before .before .before in
-    let a = s .before .before .before .before .args in
-    let k = logs-small (a .log2-w) (a .log2-h) (sized s) in
     let w = shifted (a .log2-w) in
     let h = shifted (a .log2-h) in
-    record {
-      narrow = side-small (a .log2-w) w (wide s) (k .0) .1;
-      low = side-small (a .log2-h) h (high s) (k .1) .1;
-      one =
-          rows-inside (length (a .org .now)) (a .width) (a .height) (a .stride) (a .x) (a .y) w h
-          (side-small (a .log2-h) h (high s) (k .1) .0)
-          (is-inside (length (a .org .now)) (a .width) (a .height) (a .stride) (a .x) (a .y) w h (one (c .before .before)));
-      two = omega (arith, is-inside (length (a .cur .now)) w h w 0 0 w h (two c) .formed .long);
-    }
-
-mul-if5 : tie.Need-mul-if5
-mul-if5 c =
-    let s = c .before .before .before .before .before .before in
+    A (s .before .before) w h .area || B (s .before .before) w h .area || ltb (length (a .diff .now)) (h * w)
+    ≡ c .outside-plane .result || ltb (length (a .cur .now)) (h * w) || ltb (length (a .diff .now)) (h * w)
+areas c =
+    let s = c .before .before .before in
     let a = s .before .before .before .before .args in
-    let k = logs-small (a .log2-w) (a .log2-h) (sized s) in
-    let w = side-small (a .log2-w) (shifted (a .log2-w)) (wide s) (k .0) .1 in
-    let h = side-small (a .log2-h) (shifted (a .log2-h)) (high s) (k .1) .1 in
-    let p = mul-le-mul h w in
-    omega arith
+    let w = shifted (a .log2-w) in
+    let h = shifted (a .log2-h) in
+    let k = small s in
+    ap (λ (t : Bool). t || ltb (length (a .diff .now)) (h * w))
+    (areas-found (c .outside-plane .result) (A (s .before .before) w h .area) (length (a .cur .now)) w h (k .0) (k .1) (c .outside-plane .ensures))
 
-returns-5 : tie.Need-returns-5
-returns-5 c =
-    let s = c .before .before .before .before .before .before .before in
+returns-3 : tie.Need-returns-3
+returns-3 c =
+    let d = c .before .before in
+    let s = d .before .before in
     let a = s .before .before .before .before .args in
-    diff-room (a .log2-w) (a .log2-h) (a .depth) (A (s .before .before)) (B (s .before .before)) (a .diff .now)
-    (shifted (a .log2-w)) (shifted (a .log2-h)) (wide s) (high s) (sized s)
-    (deep (c .before .before .before .before .before)) (one (c .before .before .before)) (two (c .before)) (c .if5 .taken)
+    diff-area (a .log2-w) (a .log2-h) (a .depth) (A (s .before .before)) (B (s .before .before)) (a .diff .now) (shifted (a .log2-w))
+    (shifted (a .log2-h)) (wide s) (high s) (sized s) (deep d) (areas (c .before) ∙ c .if3 .taken)
+
+-- else both blocks lie inside their buffers, and the differences have room
+inside :
+    (c : tie.Else3) →
+    let s = c .before .before .before .before in
+    let a = s .before .before .before .before .args in
+    let w = shifted (a .log2-w) in
+    let h = shifted (a .log2-h) in
+    TwoBlocks w h (length (a .org .now)) (a .y * a .stride + a .x) (a .stride) (length (a .cur .now)) 0 w × (h * w ≤ length (a .diff .now))
+inside c =
+    let s = c .before .before .before .before in
+    let a = s .before .before .before .before .args in
+    let w = shifted (a .log2-w) in
+    let h = shifted (a .log2-h) in
+    let k = small s in
+    let org = outsidePlane (length (a .org .now)) (a .width) (a .height) (a .stride) (a .x) (a .y) w h in
+    let cur = outsidePlane (length (a .cur .now)) w h w 0 0 w h in
+    let room = ltb (length (a .diff .now)) (h * w) in
+    let f = areas (c .before) ∙ c .if3 .left in
+    let g = neither-left (org || cur) room f in (
+      record {
+        narrow = k .0 .1;
+        low = k .1 .1;
+        one =
+            rows-inside (length (a .org .now)) (a .width) (a .height) (a .stride) (a .x) (a .y) w h (k .1 .0)
+            (is-inside (length (a .org .now)) (a .width) (a .height) (a .stride) (a .x) (a .y) w h (neither-left org cur g));
+        two = omega (arith, is-inside (length (a .cur .now)) w h w 0 0 w h (neither-right org cur g) .formed .long);
+      },
+      ltb-false (length (a .diff .now)) (h * w) (neither-right (org || cur) room f),
+    )
 
 mul-of-blocks : tie.Need-mul-of-blocks
-mul-of-blocks c = omega (arith, blocks (c .before) .one)
+mul-of-blocks c = omega (arith, inside c .0 .one)
 
 add-of-blocks : tie.Need-add-of-blocks
-add-of-blocks c = omega (arith, blocks (c .before) .one)
+add-of-blocks c = omega (arith, inside c .0 .one)
 
 of-blocks-requires : tie.Need-of-blocks-requires
 of-blocks-requires c κs =
-    (blocks (c .before .before), (outside-no 8 14 _ (deep (c .before .before .before .before .before .before)) .1, c .before .if5 .left))
+    let k = inside (c .before) in (k .0, (outside-no 8 14 _ (deep (c .before .before .before)) .1, k .1))
 
 same-length : tie.Need-same-length
 same-length c = search needs
 
-returns-6 : tie.Need-returns-6
-returns-6 c =
+returns-4 : tie.Need-returns-4
+returns-4 c =
     let e = c .before .before .before in
-    let s = e .before .before .before .before .before .before .before in
+    let d = e .before .before in
+    let s = d .before .before in
     let a = s .before .before .before .before .args in
     let w = shifted (a .log2-w) in
     let h = shifted (a .log2-h) in
     let p = plane-alike (a .org .now) (a .width) (a .height) (a .stride) (a .x) (a .y) w h (a .depth) (a .y * a .stride + a .x) refl in
     let q = plane-alike (a .cur .now) w h w 0 0 w h (a .depth) 0 (omega arith) in
-    let k = logs-small (a .log2-w) (a .log2-h) (sized s) in
     diff-rest (a .log2-w) (a .log2-h) (a .depth) (A (s .before .before)) (B (s .before .before)) (a .diff .now) w h
-    (wide s) (high s) (sized s) (deep (e .before .before .before .before .before)) (one (e .before .before .before))
-    (two (e .before)) (e .if5 .left)
-    (differed-alike (side-small (a .log2-w) w (wide s) (k .0) .0) p q (c .before .of-blocks .ensures))
+    (wide s) (high s) (sized s) (deep d) (areas (e .before) ∙ e .if3 .left)
+    (differed-alike (small s .0 .0) p q (c .before .of-blocks .ensures))
 
 pub evce-diff-16b-spec : {M : Type 1} → statement M
 evce-diff-16b-spec =
@@ -179,14 +178,11 @@ evce-diff-16b-spec =
     shl-h
     wrong-depth-requires
     returns-2
+    mul-n
     outside-plane-requires
     returns-3
-    outside-plane-requires-2
-    returns-4
-    mul-if5
-    returns-5
     mul-of-blocks
     add-of-blocks
     of-blocks-requires
     same-length
-    returns-6)
+    returns-4)

@@ -12,7 +12,7 @@ same-length : tie.Need-same-length
 same-length c = search needs
 
 returns : tie.Need-returns
-returns c = sides-left refl (c .before .before .before .if1 .taken) (c .before .of-width .ensures)
+returns c = sides-left _ _ refl (c .before .before .before .if1 .taken) (c .before .of-width .ensures)
 
 of-width-requires-2 : tie.Need-of-width-requires-2
 of-width-requires-2 c κs = search needs

@@ -24,21 +24,21 @@ sampled :
     (c : tie.After-any-rows) (t : Bool) →
     let a = c .before .before .before .args in
     leb (2 ^ a .depth) (c .any-rows .result) ≡ t →
-    first ((Sample when t) ∷ []) ≡ first (sampleTests (a .w) (a .h) (strided (a .a .now) (a .a-at) (a .a-stride) (a .depth)) (strided (a .b .now) (a .b-at) (a .b-stride) (a .depth)))
+    first ((Sample when t) ∷ []) ≡ first (sampleTests (a .w) (a .h) (strided (a .a .now) (a .a-at) (a .a-stride) (a .depth)) (strided (a .b .now) 0 (a .w) (a .depth)))
 sampled c t e =
     let a = c .before .before .before .args in
     ap (λ (u : Bool). first ((Sample when u) ∷ [])) (sym e)
-    ∙ marked-first (a .w) (a .h) (a .depth) (strided (a .a .now) (a .a-at) (a .a-stride) (a .depth)) (strided (a .b .now) (a .b-at) (a .b-stride) (a .depth))
-    (cell 0 (a .a .now) (a .a-at) (a .a-stride)) (cell 0 (a .b .now) (a .b-at) (a .b-stride)) (λ j i. refl) (λ j i. refl) (c .any-rows .ensures)
+    ∙ marked-first (a .w) (a .h) (a .depth) (strided (a .a .now) (a .a-at) (a .a-stride) (a .depth)) (strided (a .b .now) 0 (a .w) (a .depth))
+    (cell 0 (a .a .now) (a .a-at) (a .a-stride)) (cell 0 (a .b .now) 0 (a .w)) (λ j i. refl) (λ j i. refl) (c .any-rows .ensures)
 
 -- a depth of at most 14 and no sample that reaches it: each sample is below 2^14
-small : (c : tie.Else1) → let a = c .before .before .before .before .args in SmallBlocks (a .w) (a .h) (a .a .now) (a .a-at) (a .a-stride) (a .b .now) (a .b-at) (a .b-stride)
+small : (c : tie.Else1) → let a = c .before .before .before .before .args in SmallBlocks (a .w) (a .h) (a .a .now) (a .a-at) (a .a-stride) (a .b .now) 0 (a .w)
 small c =
     let s = c .before .before .before .before in
     let a = s .args in
     let t = c .before .any-rows in
     let p : 2 ^ a .depth ≤ 2 ^ 14 = pow-mono (s .pre .1 .0) in
-    let each = below-all (a .w) (a .h) (a .depth) (cell 0 (a .a .now) (a .a-at) (a .a-stride)) (cell 0 (a .b .now) (a .b-at) (a .b-stride)) (t .result) (t .ensures) (div-none (t .result) (a .depth) (c .if1 .left)) in
+    let each = below-all (a .w) (a .h) (a .depth) (cell 0 (a .a .now) (a .a-at) (a .a-stride)) (cell 0 (a .b .now) 0 (a .w)) (t .result) (t .ensures) (div-none (t .result) (a .depth) (c .if1 .left)) in
     record { first = λ j i m n. le-trans (each j i m n .0) p; second = λ j i m n. le-trans (each j i m n .1) p }
 
 any-rows-requires : tie.Need-any-rows-requires

@@ -1,11 +1,12 @@
 -- `evce_satd_16b` meets its contract: each refusal is the first broken test, and what is left is read alike. Assumes nothing.
 use mathlib.Core.Path.{_≡_, refl, sym, ap, _∙_}
 use mathlib.Core.Bool.{false, _||_}
-use Prim.Native.Nat.{ℕ, _+_, _*_, _-_, _/_, _%_, _^_}
+use Prim.Native.Nat.{ℕ, _+_, _*_, _-_, _/_, _%_, _^_, _≤_}
+use native.Mathlib.Nat.{mul-le-mul}
 use native.Mathlib.Omega.{arith}
 use borrow.Author.Needs.{needs}
 use lib.ListN.{length}
-use lib.Dec.{eqb}
+use lib.Dec.{eqb, ltb}
 use Rattle.order.proofs.Tests.{neither-left, neither-right}
 use Rattle.evc.specs.Tests.{outside}
 use Rattle.evc.specs.Tiles.{tileSide}
@@ -14,7 +15,8 @@ use Rattle.planes.specs.Areas.{outsidePlane}
 use Rattle.planes.specs.Blocks.{TwoBlocks}
 use Rattle.planes.proofs.Planes.{is-inside, rows-inside, plane-alike}
 use Rattle.planes.proofs.Replies.{rest-alike}
-use Rattle.satd.proofs.Tiling.{satd-alike, satd-size, satd-depth, satd-area, satd-second, satd-rest}
+use Rattle.diff.proofs.Tested.{areas-found}
+use Rattle.satd.proofs.Tiling.{satd-alike, satd-size, satd-depth, satd-area, satd-rest}
 use Rattle.satd.proofs.satd.evce_satd_16b.Statement.{statement}
 use Rattle.satd.proofs.satd.evce_satd_16b.Tie as tie
 
@@ -24,12 +26,6 @@ sized c = sym (c .before .uneven-sides .ensures) ∙ c .if1 .left
 
 deep : (c : tie.Else2) → outside 8 14 (c .before .before .before .before .before .before .args .depth) ≡ false
 deep c = sym (c .before .wrong-depth .ensures) ∙ c .if2 .left
-
-one : (c : tie.Else3) → let a = c .before .before .before .before .before .before .before .before .args in outsidePlane (length (a .org .now)) (a .width) (a .height) (a .stride) (a .x) (a .y) (a .w) (a .h) ≡ false
-one c = sym (c .before .outside-plane .ensures) ∙ c .if3 .left
-
-two : (c : tie.Else4) → let a = c .before .before .before .before .before .before .before .before .before .before .args in outsidePlane (length (a .cur .now)) (a .w) (a .h) (a .w) 0 0 (a .w) (a .h) ≡ false
-two c = sym (c .before .outside-plane2 .ensures) ∙ c .if4 .left
 
 uneven-sides-requires : tie.Need-uneven-sides-requires
 uneven-sides-requires c κs = search needs
@@ -46,35 +42,60 @@ returns-2 c = satd-depth _ _ _ _ _ (sized (c .before .before)) (sym (c .before .
 outside-plane-requires : tie.Need-outside-plane-requires
 outside-plane-requires c κs = search needs
 
+-- the sides are small
+small :
+    (c : tie.Else1) → let a = c .before .before .before .before .args in ((2 ≤ a .w) × (a .w ≤ 64)) × ((2 ≤ a .h) × (a .h ≤ 64))
+small c =
+    let a = c .before .before .before .before .args in
+    let w = outside 2 64 (a .w) || eqb (a .w % 2) 1 in
+    let h = outside 2 64 (a .h) || eqb (a .h % 2) 1 in (
+      outside-no 2 64 (a .w) (neither-left (outside 2 64 (a .w)) (eqb (a .w % 2) 1) (neither-left w h (sized c))),
+      outside-no 2 64 (a .h) (neither-left (outside 2 64 (a .h)) (eqb (a .h % 2) 1) (neither-right w h (sized c))),
+    )
+
+mul-if3 : tie.Need-mul-if3
+mul-if3 c =
+    let k = small (c .before .before .before) in
+    let p = mul-le-mul (k .1 .1) (k .0 .1) in
+    omega arith
+
+-- what the areas' tests find is what the definition asks
+areas :
+    (c : tie.After-outside-plane) →
+    let a = c .before .before .before .before .before .before .before .args in
+    outsidePlane (length (a .org .now)) (a .width) (a .height) (a .stride) (a .x) (a .y) (a .w) (a .h)
+    || outsidePlane (length (a .cur .now)) (a .w) (a .h) (a .w) 0 0 (a .w) (a .h)
+    ≡ c .outside-plane .result || ltb (length (a .cur .now)) (a .h * a .w)
+areas c =
+    let s = c .before .before .before in
+    let a = s .before .before .before .before .args in
+    let k = small s in
+    areas-found (c .outside-plane .result) (outsidePlane (length (a .org .now)) (a .width) (a .height) (a .stride) (a .x) (a .y) (a .w) (a .h))
+    (length (a .cur .now)) (a .w) (a .h) (omega arith, k .0 .1) (omega arith, k .1 .1) (c .outside-plane .ensures)
+
 returns-3 : tie.Need-returns-3
 returns-3 c =
-    satd-area _ _ _ _ _ (sized (c .before .before .before .before)) (deep (c .before .before)) (sym (c .before .outside-plane .ensures) ∙ c .if3 .taken)
+    satd-area _ _ _ _ _ (sized (c .before .before .before .before)) (deep (c .before .before)) (areas (c .before) ∙ c .if3 .taken)
 
-outside-plane-requires-2 : tie.Need-outside-plane-requires-2
-outside-plane-requires-2 c κs = search needs
-
-returns-4 : tie.Need-returns-4
-returns-4 c =
-    satd-second _ _ _ _ _ (sized (c .before .before .before .before .before .before)) (deep (c .before .before .before .before)) (one (c .before .before))
-    (sym (c .before .outside-plane2 .ensures) ∙ c .if4 .taken)
-
--- so both blocks lie inside their buffers
+-- else both blocks lie inside their buffers
 blocks :
-    (c : tie.Else4) →
-    let a = c .before .before .before .before .before .before .before .before .before .before .args in
+    (c : tie.Else3) →
+    let a = c .before .before .before .before .before .before .before .before .args in
     TwoBlocks (a .w) (a .h) (length (a .org .now)) (a .y * a .stride + a .x) (a .stride) (length (a .cur .now)) 0 (a .w)
 blocks c =
-    let a = c .before .before .before .before .before .before .before .before .before .before .args in
-    let s = sized (c .before .before .before .before .before .before) in
-    let w = outside-no 2 64 (a .w) (neither-left (outside 2 64 (a .w)) (eqb (a .w % 2) 1) (neither-left (outside 2 64 (a .w) || eqb (a .w % 2) 1) (outside 2 64 (a .h) || eqb (a .h % 2) 1) s)) in
-    let h = outside-no 2 64 (a .h) (neither-left (outside 2 64 (a .h)) (eqb (a .h % 2) 1) (neither-right (outside 2 64 (a .w) || eqb (a .w % 2) 1) (outside 2 64 (a .h) || eqb (a .h % 2) 1) s)) in
+    let s = c .before .before .before .before in
+    let a = s .before .before .before .before .args in
+    let k = small s in
+    let org = outsidePlane (length (a .org .now)) (a .width) (a .height) (a .stride) (a .x) (a .y) (a .w) (a .h) in
+    let cur = outsidePlane (length (a .cur .now)) (a .w) (a .h) (a .w) 0 0 (a .w) (a .h) in
+    let f = areas (c .before) ∙ c .if3 .left in
     record {
-      narrow = w .1;
-      low = h .1;
+      narrow = k .0 .1;
+      low = k .1 .1;
       one =
           rows-inside (length (a .org .now)) (a .width) (a .height) (a .stride) (a .x) (a .y) (a .w) (a .h) (omega arith)
-          (is-inside (length (a .org .now)) (a .width) (a .height) (a .stride) (a .x) (a .y) (a .w) (a .h) (one (c .before .before)));
-      two = omega (arith, is-inside (length (a .cur .now)) (a .w) (a .h) (a .w) 0 0 (a .w) (a .h) (two c) .formed .long);
+          (is-inside (length (a .org .now)) (a .width) (a .height) (a .stride) (a .x) (a .y) (a .w) (a .h) (neither-left org cur f));
+      two = omega (arith, is-inside (length (a .cur .now)) (a .w) (a .h) (a .w) 0 0 (a .w) (a .h) (neither-right org cur f) .formed .long);
     }
 
 mul-of-blocks : tie.Need-mul-of-blocks
@@ -85,16 +106,16 @@ add-of-blocks c = omega (arith, blocks c .one)
 
 of-blocks-requires : tie.Need-of-blocks-requires
 of-blocks-requires c κs =
-    (blocks c, outside-no 8 14 (c .before .before .before .before .before .before .before .before .before .before .args .depth) (deep (c .before .before .before .before)))
+    (blocks c, outside-no 8 14 (c .before .before .before .before .before .before .before .before .args .depth) (deep (c .before .before)))
 
-returns-5 : tie.Need-returns-5
-returns-5 c =
-    let a = c .before .before .before .before .before .before .before .before .before .before .before .args in
+returns-4 : tie.Need-returns-4
+returns-4 c =
+    let a = c .before .before .before .before .before .before .before .before .before .args in
     let p = plane-alike (a .org .now) (a .width) (a .height) (a .stride) (a .x) (a .y) (a .w) (a .h) (a .depth) (a .y * a .stride + a .x) refl in
     let q = plane-alike (a .cur .now) (a .w) (a .h) (a .w) 0 0 (a .w) (a .h) (a .depth) 0 (omega arith) in
     c .of-blocks .ensures ∙ rest-alike p q _ _ (ap (λ (n : ℕ). n / 2 ^ (a .depth - 8)) (satd-alike p q (tileSide (a .w) (a .h))))
-    ∙ satd-rest _ _ _ _ _ (sized (c .before .before .before .before .before .before .before)) (deep (c .before .before .before .before .before))
-    (one (c .before .before .before)) (two (c .before))
+    ∙ satd-rest _ _ _ _ _ (sized (c .before .before .before .before .before)) (deep (c .before .before .before))
+    (areas (c .before .before) ∙ c .before .if3 .left)
 
 pub evce-satd-16b-spec : {M : Type 1} → statement M
 evce-satd-16b-spec =
@@ -105,10 +126,9 @@ evce-satd-16b-spec =
     wrong-depth-requires
     returns-2
     outside-plane-requires
+    mul-if3
     returns-3
-    outside-plane-requires-2
-    returns-4
     mul-of-blocks
     add-of-blocks
     of-blocks-requires
-    returns-5)
+    returns-4)

@@ -1,4 +1,4 @@
--- `tiles8::differences` meets its contract. Assumes nothing.
+-- `tiles2::number` meets its contract. Assumes nothing.
 use mathlib.Core.Path.{refl}
 use mathlib.Core.List.{List, []}
 use Prim.Native.Nat.{_+_, _*_, _-_}
@@ -9,23 +9,24 @@ use Rattle.integers.proofs.Loop.{Filled, filled-start, filled-step, filled-end}
 use Rattle.planes.specs.Blocks.{cell}
 use Rattle.diff.specs.Small.{SmallRow, apartFrom}
 use Rattle.diff.proofs.Tested.{small-one, small-two}
-use Rattle.satd.proofs.tiles8.differences.Statement.{statement}
-use Rattle.satd.proofs.tiles8.differences.Tie as tie
+use Rattle.satd.proofs.Tiling.{number-of}
+use Rattle.satd.proofs.tiles2.number.Statement.{statement}
+use Rattle.satd.proofs.tiles2.number.Tie as tie
 
 abbrev Inv-loop : tie.InvT-loop
-Inv-loop a a-at a-stride b b-at b-stride out₀ j₀ out j = Filled (List ℤ) [] 8 (λ j. tab 8 (apartFrom a a-at a-stride b b-at b-stride j)) out j
+Inv-loop a a-at a-stride b b-at b-stride out₀ j₀ out j = Filled (List ℤ) [] 2 (λ j. tab 2 (apartFrom a a-at a-stride b b-at b-stride j)) out j
 
 abbrev μ-loop : tie.MeasureT-loop
-μ-loop a a-at a-stride b b-at b-stride out₀ j₀ out j = 8 - j
+μ-loop a a-at a-stride b b-at b-stride out₀ j₀ out j = 2 - j
 
 loop-holds : tie.Need-loop-holds Inv-loop μ-loop
 loop-holds c = filled-start refl
 
 -- row j of each block is tested
-one : (c : tie.In-loop Inv-loop μ-loop) → let a = c .before .before .before .before .args in SmallRow 8 (a .a .now) (a .a-at + c .before .loop .j * a .a-stride)
+one : (c : tie.In-loop Inv-loop μ-loop) → let a = c .before .before .before .before .args in SmallRow 2 (a .a .now) (a .a-at + c .before .loop .j * a .a-stride)
 one c = let k = c .before .before .before .before .pre in small-one (k .blocks) (k .small) (c .loop-test .taken)
 
-two : (c : tie.In-loop Inv-loop μ-loop) → let a = c .before .before .before .before .args in SmallRow 8 (a .b .now) (a .b-at + c .before .loop .j * a .b-stride)
+two : (c : tie.In-loop Inv-loop μ-loop) → let a = c .before .before .before .before .args in SmallRow 2 (a .b .now) (a .b-at + c .before .loop .j * a .b-stride)
 two c = let k = c .before .before .before .before .pre in small-two (k .blocks) (k .small) (c .loop-test .taken)
 
 mul-row : tie.Need-mul-row Inv-loop μ-loop
@@ -59,11 +60,14 @@ loop-again : tie.Need-loop-again Inv-loop μ-loop
 unfolding apartFrom cell
 loop-again c = filled-step (c .before .before .loop .inv) (omega arith) (c .row .ensures)
 
-returns : tie.Need-returns Inv-loop μ-loop
-returns c = filled-end (c .before .loop .inv) (omega arith)
+evc-had-2x2-requires : tie.Need-evc-had-2x2-requires Inv-loop μ-loop
+evc-had-2x2-requires c κs = tt
 
-pub differences-spec : {M : Type 1} → statement M
-differences-spec =
+returns : tie.Need-returns Inv-loop μ-loop
+returns c = number-of 2 _ (c .evc-had-2x2 .result) _ (filled-end (c .before .before .loop .inv) (omega arith)) (c .evc-had-2x2 .ensures)
+
+pub number-spec : {M : Type 1} → statement M
+number-spec =
     tie.close
     (tie.spec
     Inv-loop
@@ -79,4 +83,5 @@ differences-spec =
     add-j
     loop-less
     loop-again
+    evc-had-2x2-requires
     returns)
