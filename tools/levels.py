@@ -18,28 +18,29 @@ FEW = {8: 8, 16: 4, 32: 2}
 def code(m):
     out = [
         f"// From size {m} to size {2 * m}, in all 16 lanes. Written by tools/levels.py.",
-        *([] if MANY[m] == m else ["ghost use mathlib.Core.Path.{_≡_};"]),
+        "ghost use mathlib.Core.Path.{_≡_};",
         "ghost use Prim.Native.Nat.{_≤_};",
         "ghost use lib.ListN.{length};",
-        *([] if MANY[m] == m else ["ghost use Rattle.table.specs.Flat.{flat};"]),
-        "ghost use Rattle.levels.specs.Steps.{" + ("Sized" if MANY[m] == m else "All, Sized") + "};",
+        "ghost use Rattle.table.specs.Flat.{flat};",
+        "ghost use Rattle.levels.specs.Steps.{All, Sized};",
         "use super::lanes::pick;",
         "use super::lanes::places;",
         "",
     ]
-    # one pass is the level itself
-    one = MANY[m] == m
     for g in range(0, m, MANY[m]):
-        out += [] if one else [
+        out += [
             f"// Places {g} to {g + MANY[m] - 1} and their mirrors.",
             f"fn rows{m}_{g}(t: &[i8; 4096], s: &[i16; 1024], e: &mut [i32])",
             f"    requires {{ ⌜ (now t ≡ flat) × All (now s) (now e) {m} {g} ⌝ }}",
             f"    ensures {{ λ _. ⌜ All (now (s .entry)) (now (e .exit)) {m} {g + MANY[m]} ⌝ }}",
             "{",
-            *lanes(m, g),
-            "}",
-            "",
+            "    for j in 0..16 {",
+            f"        let mut picked = [0i32; {m}];",
+            f"        pick(s, &mut picked, {m}, {32 // m}, j);",
+            "        let x = &picked[..];",
         ]
+        out += [f"        places(t, s, x, e, {m}, {n}, {n + FEW[m]}, j);" for n in range(g, g + MANY[m], FEW[m])]
+        out += ["    }", "}", ""]
     out += [
         f"pub(crate) fn level{m}(s: &[i16; 1024], e: &mut [i32])",
         f"    requires {{ ⌜ Sized (now s) (now e) {m} × ({2 * m * 16} ≤ length (now e)) ⌝ }}",
@@ -48,20 +49,9 @@ def code(m):
         "    let all = table::table();",
         "    let t = &all;",
     ]
-    out += lanes(m, 0) if one else [f"    rows{m}_{g}(t, s, e);" for g in range(0, m, MANY[m])]
+    out += [f"    rows{m}_{g}(t, s, e);" for g in range(0, m, MANY[m])]
     out += ["}", ""]
     return "\n".join(out)
-
-
-def lanes(m, g):
-    return [
-        "    for j in 0..16 {",
-        f"        let mut picked = [0i32; {m}];",
-        f"        pick(s, &mut picked, {m}, {32 // m}, j);",
-        "        let x = &picked[..];",
-        *(f"        places(t, s, x, e, {m}, {n}, {n + FEW[m]}, j);" for n in range(g, g + MANY[m], FEW[m])),
-        "    }",
-    ]
 
 
 def proof(module, name, does, uses, body, needs, loop=""):
@@ -93,42 +83,26 @@ def called(name, k):
 
 def rows(m, g):
     """The loop over the lanes. It binds the loop, its test; the loan of the array, `pick`, and the loan's end; the loan of the inputs, which all calls
-    share; then, of each call, the loan of e, the call, and the loan's end. Where it is the whole level, the table and the loan of it come first."""
+    share; then, of each call, the loan of e, the call, and the loan's end."""
     calls = MANY[m] // FEW[m]
-    one = MANY[m] == m
-    # from what the loop finds back to the start; of it, the table, and what is given of e
-    first = 2 if one else 0
-    start = lambda k: f"c{back(k + first)}"
-    table = lambda k: f"c{back(k + 1)} .table .ensures" if one else f"c{back(k)} .pre .0"
-    level = lambda k: f"begun ({start(k)})" if one else f"{start(k)} .pre .1 .level"
     uses = [
         "use mathlib.Core.Path.{refl, sym}",
         "use Prim.Native.Nat.{_-_}",
         "use native.Mathlib.Omega.{arith}",
         "use lib.Dec.{lit<, lit≤}",
-        "use Rattle.halving.proofs.Step.{none, all}" if one else "",
-        "use Rattle.levels.specs.Steps.{Halving}" if one else "",
         "use Rattle.levels.proofs.AsLine.{kept-then}" if calls > 1 else "",
         "use Rattle.levels.proofs.Passes.{Places, Passed, passed-none, passed-more, next-lane, passed-all}",
     ]
-    binds = "s e₀ t j₀ e j" if one else "t s e₀ j₀ e j"
     body = [
         "abbrev Inv-loop : tie.InvT-loop",
-        f"Inv-loop {binds} = Passed (Places s {m} {g}) (Places s {m} {g + MANY[m]}) e₀ e j",
+        f"Inv-loop t s e₀ j₀ e j = Passed (Places s {m} {g}) (Places s {m} {g + MANY[m]}) e₀ e j",
         "",
         "abbrev μ-loop : tie.MeasureT-loop",
-        f"μ-loop {binds} = 16 - j",
+        "μ-loop t s e₀ j₀ e j = 16 - j",
         "",
     ]
-    if one:
-        body += [
-            f"begun : (s : tie.Start Inv-loop μ-loop) → Halving (s .args .s .now) (s .args .e .now) {m}",
-            "begun s = record { narrow = s .pre .0 .narrow; whole = refl; size = lit≤ tt; room = s .pre .1 }",
-            "",
-        ]
-    needs = [("table-requires", " κs", "tt")] if one else []
-    needs += [
-        ("loop-holds", "", f"passed-none (λ j h. none ({start(0)} .pre .0 .sums j h))" if one else "passed-none (c .pre .1 .part)"),
+    needs = [
+        ("loop-holds", "", "passed-none (c .pre .1 .part)"),
         ("slice-aggregate-pick", "", "refl"),
         ("pick-requires", " κs", "(refl, record { some = lit< tt; rows = lit≤ tt; column = lit< tt; among = c .before .loop-test .taken })"),
         ("slice-aggregate-x", "", f"sym (c{back(2)} .pick .ensures .long)"),
@@ -138,8 +112,8 @@ def rows(m, g):
     picked = lambda i: 3 + 3 * i
     for i in range(calls):
         k = test(i)
-        lane = f"c{back(2)} .{called('places', i)} .ensures .lane" if i else f"next-lane ({level(k + 2)}) (c{back(k + 1)} .loop .inv) (c{back(k)} .loop-test .taken)"
-        given = f"record {{ table = {table(k + 2)}; lane = {lane}; picks = c{back(picked(i))} .pick .ensures }}"
+        lane = f"c{back(2)} .{called('places', i)} .ensures .lane" if i else f"next-lane (c{back(k + 2)} .pre .1 .level) (c{back(k + 1)} .loop .inv) (c{back(k)} .loop-test .taken)"
+        given = f"record {{ table = c{back(k + 2)} .pre .0; lane = {lane}; picks = c{back(picked(i))} .pick .ensures }}"
         needs.append((nth("places-requires", i + 1), " κs", f"({given}, (lit≤ tt, lit≤ tt))"))
     put = lambda i: f"c{back(3 * (calls - 1 - i) + 1)} .{called('places', i + 1)} .ensures"
     kept = f"{put(calls - 1)} .kept"
@@ -151,11 +125,9 @@ def rows(m, g):
         ("loop-less", "", "omega arith"),
         ("loop-again", "", f"passed-more (c{back(end + 1)} .loop .inv) (c{back(end)} .loop-test .taken) ({kept}) ({put(calls - 1)} .lane .part)"),
         ("same-length", "", "c .before .loop .inv .long"),
+        ("returns", "", f"passed-all (c{back(2)} .pre .1 .level) (c .before .loop .inv) (c .loop-test .left)"),
     ]
-    every = f"passed-all ({level(2)}) (c .before .loop .inv) (c .loop-test .left)"
-    end = f"let r = {every} in record {{ narrow = r .level .narrow; sums = λ j h. all (r .part j h) }}" if one else every
-    needs.append(("returns", "", end))
-    return proof(f"level{m}", f"level{m}" if one else f"rows{m}_{g}", "lane after lane.", [use for use in uses if use], body, needs, " Inv-loop μ-loop")
+    return proof(f"level{m}", f"rows{m}_{g}", "lane after lane.", [use for use in uses if use], body, needs, " Inv-loop μ-loop")
 
 
 def level(m):
@@ -183,9 +155,6 @@ def files():
     proofs = CRATE / "proofs"
     for m in SIZES:
         yield CRATE / "src" / f"level{m}.rt", code(m)
-        if MANY[m] == m:
-            yield proofs / f"level{m}" / f"level{m}" / "Proof.antt", rows(m, 0)
-            continue
         for g in range(0, m, MANY[m]):
             yield proofs / f"level{m}" / f"rows{m}_{g}" / "Proof.antt", rows(m, g)
         yield proofs / f"level{m}" / f"level{m}" / "Proof.antt", level(m)

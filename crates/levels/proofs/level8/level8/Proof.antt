@@ -1,71 +1,28 @@
--- `levels::level8::level8` meets its contract: lane after lane. Written by tools/levels.py.
+-- `levels::level8::level8` meets its contract: pass after pass. Written by tools/levels.py.
 -- Assumes nothing.
-use mathlib.Core.Path.{refl, sym}
-use Prim.Native.Nat.{_-_}
-use native.Mathlib.Omega.{arith}
-use lib.Dec.{lit<, lit≤}
+use mathlib.Core.Path.{refl, _∙_}
+use lib.Dec.{lit≤}
 use Rattle.halving.proofs.Step.{none, all}
-use Rattle.levels.specs.Steps.{Halving}
-use Rattle.levels.proofs.Passes.{Places, Passed, passed-none, passed-more, next-lane, passed-all}
 use Rattle.levels.proofs.level8.level8.Statement.{statement}
 use Rattle.levels.proofs.level8.level8.Tie as tie
 
-abbrev Inv-loop : tie.InvT-loop
-Inv-loop s e₀ t j₀ e j = Passed (Places s 8 0) (Places s 8 8) e₀ e j
-
-abbrev μ-loop : tie.MeasureT-loop
-μ-loop s e₀ t j₀ e j = 16 - j
-
-begun : (s : tie.Start Inv-loop μ-loop) → Halving (s .args .s .now) (s .args .e .now) 8
-begun s = record { narrow = s .pre .0 .narrow; whole = refl; size = lit≤ tt; room = s .pre .1 }
-
-table-requires : tie.Need-table-requires Inv-loop μ-loop
+table-requires : tie.Need-table-requires
 table-requires c κs = tt
 
-loop-holds : tie.Need-loop-holds Inv-loop μ-loop
-loop-holds c = passed-none (λ j h. none (c .before .before .pre .0 .sums j h))
+rows8-0-requires : tie.Need-rows8-0-requires
+rows8-0-requires c κs = let s = c .before .before .before in (c .before .before .table .ensures, record { level = record { narrow = s .pre .0 .narrow; whole = refl; size = lit≤ tt; room = s .pre .1 }; part = λ j h. none (s .pre .0 .sums j h) })
 
-slice-aggregate-pick : tie.Need-slice-aggregate-pick Inv-loop μ-loop
-slice-aggregate-pick c = refl
+same-length : tie.Need-same-length
+same-length c = c .before .rows8-0 .kept .1 .1 .0
 
-pick-requires : tie.Need-pick-requires Inv-loop μ-loop
-pick-requires c κs = (refl, record { some = lit< tt; rows = lit≤ tt; column = lit< tt; among = c .before .loop-test .taken })
-
-slice-aggregate-x : tie.Need-slice-aggregate-x Inv-loop μ-loop
-slice-aggregate-x c = sym (c .before .before .pick .ensures .long)
-
-places-requires : tie.Need-places-requires Inv-loop μ-loop
-places-requires c κs = (record { table = c .before .before .before .before .before .before .before .before .table .ensures; lane = next-lane (begun (c .before .before .before .before .before .before .before .before .before)) (c .before .before .before .before .before .before .loop .inv) (c .before .before .before .before .before .loop-test .taken); picks = c .before .before .before .pick .ensures }, (lit≤ tt, lit≤ tt))
-
-add-j : tie.Need-add-j Inv-loop μ-loop
-add-j c = omega arith
-
-loop-less : tie.Need-loop-less Inv-loop μ-loop
-loop-less c = omega arith
-
-loop-again : tie.Need-loop-again Inv-loop μ-loop
-loop-again c = passed-more (c .before .before .before .before .before .before .before .before .loop .inv) (c .before .before .before .before .before .before .before .loop-test .taken) (c .before .places .ensures .kept) (c .before .places .ensures .lane .part)
-
-same-length : tie.Need-same-length Inv-loop μ-loop
-same-length c = c .before .loop .inv .long
-
-returns : tie.Need-returns Inv-loop μ-loop
-returns c = let r = passed-all (begun (c .before .before .before .before)) (c .before .loop .inv) (c .loop-test .left) in record { narrow = r .level .narrow; sums = λ j h. all (r .part j h) }
+returns : tie.Need-returns
+returns c = record { narrow = c .before .rows8-0 .ensures .level .narrow; sums = λ j h. all (c .before .rows8-0 .ensures .part j h) }
 
 pub level8-spec : {M : Type 1} → statement M
 level8-spec =
     tie.close
     (tie.spec
-    Inv-loop
-    μ-loop
     table-requires
-    loop-holds
-    slice-aggregate-pick
-    pick-requires
-    slice-aggregate-x
-    places-requires
-    add-j
-    loop-less
-    loop-again
+    rows8-0-requires
     same-length
     returns)
