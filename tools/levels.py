@@ -1,5 +1,5 @@
 #!/usr/bin/env python3
-"""Writes the levels of the crate `levels`, code and proofs: eight places a function, and so few a call that a compiler writes their loop out: it
+"""Writes the levels of the crate `levels`, code and proofs: at most 16 places a function, and so few a call that a compiler writes their loop out: it
 then sees which numbers of the table it reads, and needs no table at run time.
 
     tools/levels.py            writes the files, in the layout of `rt fmt`
@@ -10,7 +10,8 @@ from pathlib import Path
 
 CRATE = Path(__file__).resolve().parent.parent / "crates" / "levels"
 SIZES = (8, 16, 32)
-# places a call
+# places a function, and a call
+MANY = {8: 8, 16: 16, 32: 16}
 FEW = {8: 8, 16: 4, 32: 2}
 
 
@@ -26,19 +27,19 @@ def code(m):
         "use super::lanes::places;",
         "",
     ]
-    for g in range(0, m, 8):
+    for g in range(0, m, MANY[m]):
         out += [
-            f"// Places {g} to {g + 7} and their mirrors.",
+            f"// Places {g} to {g + MANY[m] - 1} and their mirrors.",
             f"fn rows{m}_{g}(t: &[i8; 4096], s: &[i16; 1024], e: &mut [i32])",
             f"    requires {{ ⌜ (now t ≡ flat) × All (now s) (now e) {m} {g} ⌝ }}",
-            f"    ensures {{ λ _. ⌜ All (now (s .entry)) (now (e .exit)) {m} {g + 8} ⌝ }}",
+            f"    ensures {{ λ _. ⌜ All (now (s .entry)) (now (e .exit)) {m} {g + MANY[m]} ⌝ }}",
             "{",
             "    for j in 0..16 {",
             f"        let mut picked = [0i32; {m}];",
             f"        pick(s, &mut picked, {m}, {32 // m}, j);",
             "        let x = &picked[..];",
         ]
-        out += [f"        places(t, s, x, e, {m}, {n}, {n + FEW[m]}, j);" for n in range(g, g + 8, FEW[m])]
+        out += [f"        places(t, s, x, e, {m}, {n}, {n + FEW[m]}, j);" for n in range(g, g + MANY[m], FEW[m])]
         out += ["    }", "}", ""]
     out += [
         f"pub(crate) fn level{m}(s: &[i16; 1024], e: &mut [i32])",
@@ -48,7 +49,7 @@ def code(m):
         "    let all = table::table();",
         "    let t = &all;",
     ]
-    out += [f"    rows{m}_{g}(t, s, e);" for g in range(0, m, 8)]
+    out += [f"    rows{m}_{g}(t, s, e);" for g in range(0, m, MANY[m])]
     out += ["}", ""]
     return "\n".join(out)
 
@@ -83,7 +84,7 @@ def called(name, k):
 def rows(m, g):
     """The loop over the lanes. It binds the loop, its test; the loan of the array, `pick`, and the loan's end; the loan of the inputs, which all calls
     share; then, of each call, the loan of e, the call, and the loan's end."""
-    calls = 8 // FEW[m]
+    calls = MANY[m] // FEW[m]
     uses = [
         "use mathlib.Core.Path.{refl, sym}",
         "use Prim.Native.Nat.{_-_}",
@@ -94,7 +95,7 @@ def rows(m, g):
     ]
     body = [
         "abbrev Inv-loop : tie.InvT-loop",
-        f"Inv-loop t s e₀ j₀ e j = Passed (Places s {m} {g}) (Places s {m} {g + 8}) e₀ e j",
+        f"Inv-loop t s e₀ j₀ e j = Passed (Places s {m} {g}) (Places s {m} {g + MANY[m]}) e₀ e j",
         "",
         "abbrev μ-loop : tie.MeasureT-loop",
         "μ-loop t s e₀ j₀ e j = 16 - j",
@@ -136,7 +137,7 @@ def level(m):
         "use lib.Dec.{lit≤}",
         "use Rattle.halving.proofs.Step.{none, all}",
     ]
-    calls = [f"rows{m}-{g}" for g in range(0, m, 8)]
+    calls = [f"rows{m}-{g}" for g in range(0, m, MANY[m])]
     needs = [("table-requires", " κs", "tt")]
     for i, call in enumerate(calls):
         table = f"c{back(2 + 3 * i)} .table .ensures"
@@ -147,14 +148,14 @@ def level(m):
     needs.append(("same-length", "", " ∙ ".join(long(i) for i in reversed(range(len(calls))))))
     last = f"c .before .{calls[-1]} .ensures"
     needs.append(("returns", "", f"record {{ narrow = {last} .level .narrow; sums = λ j h. all ({last} .part j h) }}"))
-    return proof(f"level{m}", f"level{m}", "eight places after eight.", uses, [], needs)
+    return proof(f"level{m}", f"level{m}", "pass after pass.", uses, [], needs)
 
 
 def files():
     proofs = CRATE / "proofs"
     for m in SIZES:
         yield CRATE / "src" / f"level{m}.rt", code(m)
-        for g in range(0, m, 8):
+        for g in range(0, m, MANY[m]):
             yield proofs / f"level{m}" / f"rows{m}_{g}" / "Proof.antt", rows(m, g)
         yield proofs / f"level{m}" / f"level{m}" / "Proof.antt", level(m)
 

@@ -1,7 +1,7 @@
 -- The passes of a tile, as the contracts of src/had_8x8.rt and src/had_4x4.rt cite them; of any side n. A block is the list of its rows. A
 -- tile's coefficients and its number are evc's (specs/Tiles.antt). Assumes nothing.
 use mathlib.Core.Path.{_≡_}
-use Prim.Native.Nat.{ℕ, zero, suc, _≤_}
+use Prim.Native.Nat.{ℕ, zero, suc, _+_, _≤_}
 use mathlib.Core.List.{List, []}
 use lib.ListN.{getD, set}
 use lib.IntN.{ℤ, pos, _*ℤ_, natAbs}
@@ -37,6 +37,10 @@ put b j v m = set m b (set (getD m b []) j v)
 abbrev pub puts : {A : Type 0} → (ℕ → A) → ℕ → List (List A) → ℕ → List (List A)
 puts v j m zero = m
 puts v j m (suc k) = put k j (v k) (puts v j m k)
+
+-- with v 0, .., v 3 in column j of rows b, .., b + 3
+abbrev pub four : {A : Type 0} → (ℕ → A) → ℕ → ℕ → List (List A) → List (List A)
+four v b j m = put (b + 3) j (v 3) (put (b + 2) j (v 2) (put (b + 1) j (v 1) (put b j (v 0) m)))
 
 -- one pass: each row becomes its coefficients, and the block is turned: row b holds coefficient b of every row
 unfoldable pub passed : ℕ → List (List ℤ) → List (List ℤ)

@@ -2,7 +2,7 @@
 // Differs from the Rust in: the differences are handed in.
 ghost use mathlib.Core.Path.{_≡_};
 ghost use mathlib.Core.List.{[], _∷_};
-ghost use Prim.Native.Nat.{_+_, _*_};
+ghost use Prim.Native.Nat.{_+_, _*_, _<_};
 ghost use Rattle.evc.specs.Tiles.{tileNumber};
 ghost use Rattle.hadamard.specs.Passes.{place, entry, RowWithin};
 
@@ -22,11 +22,18 @@ fn tile(x0: i32, x1: i32, x2: i32, x3: i32) -> u32
     s0 / 4 + s1 + s2 + s3
 }
 
+// Row j, column i of the differences, in 32 bits.
+fn wide(diff: &[[i16; 2]; 2], j: usize, i: usize) -> i32
+    requires { ⌜ (j < 2) × (i < 2) ⌝ }
+    ensures { λ r. ⌜ r ≡ entry (now (diff .entry)) j i ⌝ }
+{
+    diff[j][i] as i32
+}
+
 // The number of a 2 by 2 tile, from its differences, row after row.
 pub fn evc_had_2x2(diff: [[i16; 2]; 2]) -> u32
     ensures { λ r. ⌜ r ≡ tileNumber 2 (entry diff) ⌝ }
 {
-    let p = diff[0];
-    let q = diff[1];
-    tile(p[0] as i32, p[1] as i32, q[0] as i32, q[1] as i32)
+    let d = &diff;
+    tile(wide(d, 0, 0), wide(d, 0, 1), wide(d, 1, 0), wide(d, 1, 1))
 }

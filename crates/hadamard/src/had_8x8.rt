@@ -4,31 +4,49 @@
 ghost use mathlib.Core.Path.{_≡_};
 ghost use mathlib.Core.List.{[], _∷_};
 ghost use Prim.Native.Nat.{_<_};
+ghost use lib.ListN.{getD};
 ghost use Rattle.evc.specs.Tiles.{tileNumber};
-ghost use Rattle.hadamard.specs.Passes.{place, entry, RowWithin, BlockWithin, Passed, put, puts, wholeLine, passed, rowSizes, blockSizes};
+ghost use Rattle.hadamard.specs.Passes.{place, entry, RowWithin, BlockWithin, Passed, put, puts, four, wholeLine, rowSizes, blockSizes};
 
-// Coefficients into column j of the upper rows, and of the lower ones.
-fn put_low(out: &mut [[i32; 8]; 8], j: usize, c0: i32, c1: i32, c2: i32, c3: i32)
-    requires { ⌜ j < 8 ⌝ }
-    ensures { λ _. ⌜ now (out .exit) ≡ put 3 j c3 (put 2 j c2 (put 1 j c1 (put 0 j c0 (now (out .entry))))) ⌝ }
+// Row j, column i of a block, and the same of the differences, in 32 bits.
+fn at(m: &[[i32; 8]; 8], j: usize, i: usize) -> i32
+    requires { ⌜ (j < 8) × (i < 8) ⌝ }
+    ensures { λ r. ⌜ r ≡ entry (now (m .entry)) j i ⌝ }
 {
-    out[0][j] = c0;
-    out[1][j] = c1;
-    out[2][j] = c2;
-    out[3][j] = c3;
+    m[j][i]
 }
 
-fn put_high(out: &mut [[i32; 8]; 8], j: usize, c4: i32, c5: i32, c6: i32, c7: i32)
-    requires { ⌜ j < 8 ⌝ }
-    ensures { λ _. ⌜ now (out .exit) ≡ put 7 j c7 (put 6 j c6 (put 5 j c5 (put 4 j c4 (now (out .entry))))) ⌝ }
+fn wide(diff: &[[i16; 8]; 8], j: usize, i: usize) -> i32
+    requires { ⌜ (j < 8) × (i < 8) ⌝ }
+    ensures { λ r. ⌜ r ≡ entry (now (diff .entry)) j i ⌝ }
 {
-    out[4][j] = c4;
-    out[5][j] = c5;
-    out[6][j] = c6;
-    out[7][j] = c7;
+    diff[j][i] as i32
 }
 
-// The eight coefficients of a line, in three steps of butterflies, into column j.
+// A coefficient into row b, column j.
+fn put(out: &mut [[i32; 8]; 8], b: usize, j: usize, c: i32)
+    requires { ⌜ (b < 8) × (j < 8) ⌝ }
+    ensures { λ _. ⌜ now (out .exit) ≡ put b j c (now (out .entry)) ⌝ }
+{
+    out[b][j] = c;
+}
+
+// Four coefficients of a line, into column j from row b on: the last two steps of its butterflies.
+fn half(out: &mut [[i32; 8]; 8], b: usize, j: usize, x0: i32, x1: i32, x2: i32, x3: i32)
+    requires { ⌜ (b < 5) × (j < 8) × RowWithin 524288 (x0 ∷ x1 ∷ x2 ∷ x3 ∷ []) ⌝ }
+    ensures { λ _. ⌜ now (out .exit) ≡ four (place (wholeLine 4 (x0 ∷ x1 ∷ x2 ∷ x3 ∷ []))) b j (now (out .entry)) ⌝ }
+{
+    let a0 = x0 + x2;
+    let a1 = x1 + x3;
+    let a2 = x0 - x2;
+    let a3 = x1 - x3;
+    put(out, b, j, a0 + a1);
+    put(out, b + 1, j, a0 - a1);
+    put(out, b + 2, j, a2 + a3);
+    put(out, b + 3, j, a2 - a3);
+}
+
+// The eight coefficients of a line, in three steps of butterflies, into column j. The first step's sums make four, its differences the others.
 fn line(
     out: &mut [[i32; 8]; 8],
     j: usize,
@@ -44,45 +62,32 @@ fn line(
     requires { ⌜ (j < 8) × RowWithin 262144 (x0 ∷ x1 ∷ x2 ∷ x3 ∷ x4 ∷ x5 ∷ x6 ∷ x7 ∷ []) ⌝ }
     ensures { λ _. ⌜ now (out .exit) ≡ puts (place (wholeLine 8 (x0 ∷ x1 ∷ x2 ∷ x3 ∷ x4 ∷ x5 ∷ x6 ∷ x7 ∷ []))) j (now (out .entry)) 8 ⌝ }
 {
-    let a0 = x0 + x4;
-    let a1 = x1 + x5;
-    let a2 = x2 + x6;
-    let a3 = x3 + x7;
-    let a4 = x0 - x4;
-    let a5 = x1 - x5;
-    let a6 = x2 - x6;
-    let a7 = x3 - x7;
-    let b0 = a0 + a2;
-    let b1 = a1 + a3;
-    let b2 = a0 - a2;
-    let b3 = a1 - a3;
-    let b4 = a4 + a6;
-    let b5 = a5 + a7;
-    let b6 = a4 - a6;
-    let b7 = a5 - a7;
-    put_low(out, j, b0 + b1, b0 - b1, b2 + b3, b2 - b3);
-    put_high(out, j, b4 + b5, b4 - b5, b6 + b7, b6 - b7);
+    half(out, 0, j, x0 + x4, x1 + x5, x2 + x6, x3 + x7);
+    half(out, 4, j, x0 - x4, x1 - x5, x2 - x6, x3 - x7);
 }
 
-// One pass. Row b of the result holds coefficient b of every row, in the order of the rows.
-fn pass(m: [[i32; 8]; 8]) -> [[i32; 8]; 8]
-    requires { ⌜ BlockWithin 262144 m ⌝ }
-    ensures { λ r. ⌜ r ≡ passed 8 m ⌝ }
-{
-    let mut out = [[0i32; 8]; 8];
-    for j in 0..8 {
-        let x = m[j];
-        line(&mut out, j, x[0], x[1], x[2], x[3], x[4], x[5], x[6], x[7]);
-    }
-    out
-}
-
-// The row pass. A difference needs 16 bits, and a sum of eight of them 3 more.
-fn row_pass(diff: [[i32; 8]; 8]) -> [[i32; 8]; 8]
-    requires { ⌜ BlockWithin 32768 diff ⌝ }
+// The row pass. Row b of the result holds coefficient b of every row, in the order of the rows. A difference needs 16 bits, and a sum of
+// eight of them 3 more.
+fn row_pass(diff: [[i16; 8]; 8]) -> [[i32; 8]; 8]
     ensures { λ r. ⌜ Passed 8 262144 diff r ⌝ }
 {
-    pass(diff)
+    let mut out = [[0i32; 8]; 8];
+    let d = &diff;
+    for j in 0..8 {
+        line(
+            &mut out,
+            j,
+            wide(d, j, 0),
+            wide(d, j, 1),
+            wide(d, j, 2),
+            wide(d, j, 3),
+            wide(d, j, 4),
+            wide(d, j, 5),
+            wide(d, j, 6),
+            wide(d, j, 7),
+        );
+    }
+    out
 }
 
 // The column pass takes on what the row pass made: row b of it is column b of the tile.
@@ -90,53 +95,44 @@ fn column_pass(m: [[i32; 8]; 8]) -> [[i32; 8]; 8]
     requires { ⌜ BlockWithin 262144 m ⌝ }
     ensures { λ r. ⌜ Passed 8 2097152 m r ⌝ }
 {
-    pass(m)
-}
-
-// The same numbers, wider: a row, and the block.
-fn widened_row(x: [i16; 8]) -> [i32; 8]
-    ensures { λ r. ⌜ r ≡ x ⌝ }
-{
-    let mut out = [0i32; 8];
-    for i in 0..8 {
-        out[i] = x[i] as i32;
-    }
-    out
-}
-
-fn widened(diff: [[i16; 8]; 8]) -> [[i32; 8]; 8]
-    ensures { λ r. ⌜ r ≡ diff ⌝ }
-{
     let mut out = [[0i32; 8]; 8];
+    let d = &m;
     for j in 0..8 {
-        let x = diff[j];
-        let r = widened_row(x);
-        out[j] = r;
+        line(
+            &mut out,
+            j,
+            at(d, j, 0),
+            at(d, j, 1),
+            at(d, j, 2),
+            at(d, j, 3),
+            at(d, j, 4),
+            at(d, j, 5),
+            at(d, j, 6),
+            at(d, j, 7),
+        );
     }
     out
 }
 
 // The sizes of a row, and of the block, added.
-fn row_sum(x: [i32; 8]) -> u32
-    requires { ⌜ RowWithin 2097152 x ⌝ }
-    ensures { λ s. ⌜ s ≡ rowSizes 8 x ⌝ }
+fn row_sum(m: &[[i32; 8]; 8], j: usize) -> u32
+    requires { ⌜ (j < 8) × RowWithin 2097152 (getD (now m) j []) ⌝ }
+    ensures { λ s. ⌜ s ≡ rowSizes 8 (getD (now (m .entry)) j []) ⌝ }
 {
     let mut s: u32 = 0;
     for i in 0..8 {
-        let v = x[i];
-        s += integers::abs_i32(v);
+        s += integers::abs_i32(at(m, j, i));
     }
     s
 }
 
-fn sum(m: [[i32; 8]; 8]) -> u32
-    requires { ⌜ BlockWithin 2097152 m ⌝ }
-    ensures { λ s. ⌜ s ≡ blockSizes 8 m ⌝ }
+fn sum(m: &[[i32; 8]; 8]) -> u32
+    requires { ⌜ BlockWithin 2097152 (now m) ⌝ }
+    ensures { λ s. ⌜ s ≡ blockSizes 8 (now (m .entry)) ⌝ }
 {
     let mut s: u32 = 0;
     for j in 0..8 {
-        let x = m[j];
-        s += row_sum(x);
+        s += row_sum(m, j);
     }
     s
 }
@@ -145,11 +141,10 @@ fn sum(m: [[i32; 8]; 8]) -> u32
 pub fn evc_had_8x8(diff: [[i16; 8]; 8]) -> u32
     ensures { λ r. ⌜ r ≡ tileNumber 8 (entry diff) ⌝ }
 {
-    let wide = widened(diff);
-    let m = row_pass(wide);
-    let c = column_pass(m);
+    let m = row_pass(diff);
+    let block = column_pass(m);
+    let c = &block;
     let all = sum(c);
-    let v = c[0][0];
-    let dc = integers::abs_i32(v);
+    let dc = integers::abs_i32(at(c, 0, 0));
     tiles::number_8(all - dc, dc)
 }

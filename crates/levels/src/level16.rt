@@ -7,10 +7,10 @@ ghost use Rattle.levels.specs.Steps.{All, Sized};
 use super::lanes::pick;
 use super::lanes::places;
 
-// Places 0 to 7 and their mirrors.
+// Places 0 to 15 and their mirrors.
 fn rows16_0(t: &[i8; 4096], s: &[i16; 1024], e: &mut [i32])
     requires { ⌜ (now t ≡ flat) × All (now s) (now e) 16 0 ⌝ }
-    ensures { λ _. ⌜ All (now (s .entry)) (now (e .exit)) 16 8 ⌝ }
+    ensures { λ _. ⌜ All (now (s .entry)) (now (e .exit)) 16 16 ⌝ }
 {
     for j in 0..16 {
         let mut picked = [0i32; 16];
@@ -18,18 +18,6 @@ fn rows16_0(t: &[i8; 4096], s: &[i16; 1024], e: &mut [i32])
         let x = &picked[..];
         places(t, s, x, e, 16, 0, 4, j);
         places(t, s, x, e, 16, 4, 8, j);
-    }
-}
-
-// Places 8 to 15 and their mirrors.
-fn rows16_8(t: &[i8; 4096], s: &[i16; 1024], e: &mut [i32])
-    requires { ⌜ (now t ≡ flat) × All (now s) (now e) 16 8 ⌝ }
-    ensures { λ _. ⌜ All (now (s .entry)) (now (e .exit)) 16 16 ⌝ }
-{
-    for j in 0..16 {
-        let mut picked = [0i32; 16];
-        pick(s, &mut picked, 16, 2, j);
-        let x = &picked[..];
         places(t, s, x, e, 16, 8, 12, j);
         places(t, s, x, e, 16, 12, 16, j);
     }
@@ -42,5 +30,4 @@ pub(crate) fn level16(s: &[i16; 1024], e: &mut [i32])
     let all = table::table();
     let t = &all;
     rows16_0(t, s, e);
-    rows16_8(t, s, e);
 }

@@ -7,10 +7,10 @@ ghost use Rattle.levels.specs.Steps.{All, Sized};
 use super::lanes::pick;
 use super::lanes::places;
 
-// Places 0 to 7 and their mirrors.
+// Places 0 to 15 and their mirrors.
 fn rows32_0(t: &[i8; 4096], s: &[i16; 1024], e: &mut [i32])
     requires { ⌜ (now t ≡ flat) × All (now s) (now e) 32 0 ⌝ }
-    ensures { λ _. ⌜ All (now (s .entry)) (now (e .exit)) 32 8 ⌝ }
+    ensures { λ _. ⌜ All (now (s .entry)) (now (e .exit)) 32 16 ⌝ }
 {
     for j in 0..16 {
         let mut picked = [0i32; 32];
@@ -20,18 +20,6 @@ fn rows32_0(t: &[i8; 4096], s: &[i16; 1024], e: &mut [i32])
         places(t, s, x, e, 32, 2, 4, j);
         places(t, s, x, e, 32, 4, 6, j);
         places(t, s, x, e, 32, 6, 8, j);
-    }
-}
-
-// Places 8 to 15 and their mirrors.
-fn rows32_8(t: &[i8; 4096], s: &[i16; 1024], e: &mut [i32])
-    requires { ⌜ (now t ≡ flat) × All (now s) (now e) 32 8 ⌝ }
-    ensures { λ _. ⌜ All (now (s .entry)) (now (e .exit)) 32 16 ⌝ }
-{
-    for j in 0..16 {
-        let mut picked = [0i32; 32];
-        pick(s, &mut picked, 32, 1, j);
-        let x = &picked[..];
         places(t, s, x, e, 32, 8, 10, j);
         places(t, s, x, e, 32, 10, 12, j);
         places(t, s, x, e, 32, 12, 14, j);
@@ -39,10 +27,10 @@ fn rows32_8(t: &[i8; 4096], s: &[i16; 1024], e: &mut [i32])
     }
 }
 
-// Places 16 to 23 and their mirrors.
+// Places 16 to 31 and their mirrors.
 fn rows32_16(t: &[i8; 4096], s: &[i16; 1024], e: &mut [i32])
     requires { ⌜ (now t ≡ flat) × All (now s) (now e) 32 16 ⌝ }
-    ensures { λ _. ⌜ All (now (s .entry)) (now (e .exit)) 32 24 ⌝ }
+    ensures { λ _. ⌜ All (now (s .entry)) (now (e .exit)) 32 32 ⌝ }
 {
     for j in 0..16 {
         let mut picked = [0i32; 32];
@@ -52,18 +40,6 @@ fn rows32_16(t: &[i8; 4096], s: &[i16; 1024], e: &mut [i32])
         places(t, s, x, e, 32, 18, 20, j);
         places(t, s, x, e, 32, 20, 22, j);
         places(t, s, x, e, 32, 22, 24, j);
-    }
-}
-
-// Places 24 to 31 and their mirrors.
-fn rows32_24(t: &[i8; 4096], s: &[i16; 1024], e: &mut [i32])
-    requires { ⌜ (now t ≡ flat) × All (now s) (now e) 32 24 ⌝ }
-    ensures { λ _. ⌜ All (now (s .entry)) (now (e .exit)) 32 32 ⌝ }
-{
-    for j in 0..16 {
-        let mut picked = [0i32; 32];
-        pick(s, &mut picked, 32, 1, j);
-        let x = &picked[..];
         places(t, s, x, e, 32, 24, 26, j);
         places(t, s, x, e, 32, 26, 28, j);
         places(t, s, x, e, 32, 28, 30, j);
@@ -78,7 +54,5 @@ pub(crate) fn level32(s: &[i16; 1024], e: &mut [i32])
     let all = table::table();
     let t = &all;
     rows32_0(t, s, e);
-    rows32_8(t, s, e);
     rows32_16(t, s, e);
-    rows32_24(t, s, e);
 }

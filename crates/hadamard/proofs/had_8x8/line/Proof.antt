@@ -1,192 +1,95 @@
--- `hadamard::had_8x8::line` meets its contract: each local is an expression of the line's numbers. That none wraps is a test of bounds,
--- that the results are the coefficients one of normal forms. Written by tools/passes.py. Assumes nothing.
-use mathlib.Core.Path.{ap, _∙_}
+-- `hadamard::had_8x8::line` meets its contract: the sums and the differences fit, and their lines of 4 are the line of 8 (`two-lines` of
+-- proofs/Lines.antt). Assumes nothing.
+use mathlib.Core.Path.{_≡_, sym, ap, ap₂, _∙_, subst}
 use mathlib.Core.List.{List, [], _∷_, map}
-use lib.Count.{ones, onesIn}
-use lib.IntN.{ℤ, pow, one}
+use Prim.Native.Nat.{ℕ}
+use lib.Dec.{lit<}
+use lib.IntN.{ℤ}
 use mir.Syntax.{w32}
-use borrow.Author.Needs.{needs}
-use Rattle.integers.proofs.Expr.{Ex, var, add, sub, stored, raw, machines}
-use Rattle.evc.specs.Tiles.{sign}
-use Rattle.hadamard.specs.Passes.{place, RowWithin, put, puts}
-use Rattle.hadamard.proofs.Lines.{known, fits, line-is}
+use Rattle.integers.proofs.Expr.{Ex, Known, var, add, sub, stored, val, raw, small, machines, fit, reads-all, within}
+use Rattle.hadamard.specs.Passes.{place, RowWithin, puts, four, wholeLine}
+use Rattle.hadamard.proofs.Lines.{sums, differences, joined, two-lines, four-within}
 use Rattle.hadamard.proofs.had_8x8.line.Statement.{statement}
 use Rattle.hadamard.proofs.had_8x8.line.Tie as tie
-
-abbrev a0 : Ex
-a0 = add (var 0) (var 4)
-
-abbrev a1 : Ex
-a1 = add (var 1) (var 5)
-
-abbrev a2 : Ex
-a2 = add (var 2) (var 6)
-
-abbrev a3 : Ex
-a3 = add (var 3) (var 7)
-
-abbrev a4 : Ex
-a4 = sub (var 0) (var 4)
-
-abbrev a5 : Ex
-a5 = sub (var 1) (var 5)
-
-abbrev a6 : Ex
-a6 = sub (var 2) (var 6)
-
-abbrev a7 : Ex
-a7 = sub (var 3) (var 7)
-
-abbrev b0 : Ex
-b0 = add a0 a2
-
-abbrev b1 : Ex
-b1 = add a1 a3
-
-abbrev b2 : Ex
-b2 = sub a0 a2
-
-abbrev b3 : Ex
-b3 = sub a1 a3
-
-abbrev b4 : Ex
-b4 = add a4 a6
-
-abbrev b5 : Ex
-b5 = add a5 a7
-
-abbrev b6 : Ex
-b6 = sub a4 a6
-
-abbrev b7 : Ex
-b7 = sub a5 a7
-
-abbrev results : List Ex
-results = map (stored w32) (add b0 b1 ∷ sub b0 b1 ∷ add b2 b3 ∷ sub b2 b3 ∷ add b4 b5 ∷ sub b4 b5 ∷ add b6 b7 ∷ sub b6 b7 ∷ [])
 
 abbrev input : tie.Start → List ℤ
 input s = s .args .x0 ∷ s .args .x1 ∷ s .args .x2 ∷ s .args .x3 ∷ s .args .x4 ∷ s .args .x5 ∷ s .args .x6 ∷ s .args .x7 ∷ []
 
-small : (s : tie.Start) → RowWithin 262144 (input s)
-small s = s .pre .1
+abbrev ρ : tie.Start → ℕ → Known
+ρ s k = small w32 (place (input s) k) 262144 (record { bound = s .pre .1 k }) tt
 
-add-a0 : tie.Need-add-a0
-add-a0 c = fits (input c) (small c) a0 tt
+-- what is handed to `half`, and that it is what its expressions say
+abbrev handed : List Ex → tie.Start → List ℤ
+handed es s = map (raw (machines (ρ s))) (map (stored w32) es)
 
-add-a1 : tie.Need-add-a1
-add-a1 c = fits (input c) (small c) a1 tt
+sums-are : (s : tie.Start) → handed sums s ≡ map (val (place (input s))) sums
+sums-are s = reads-all (ρ s) (map (stored w32) sums) tt
 
-add-a2 : tie.Need-add-a2
-add-a2 c = fits (input c) (small c) a2 tt
+differences-are : (s : tie.Start) → handed differences s ≡ map (val (place (input s))) differences
+differences-are s = reads-all (ρ s) (map (stored w32) differences) tt
 
-add-a3 : tie.Need-add-a3
-add-a3 c = fits (input c) (small c) a3 tt
+sums-within : (s : tie.Start) → RowWithin 524288 (map (val (place (input s))) sums)
+sums-within s =
+    four-within _ _ _ _ (within (ρ s) (add (var 0) (var 4)) .bound) (within (ρ s) (add (var 1) (var 5)) .bound)
+    (within (ρ s) (add (var 2) (var 6)) .bound) (within (ρ s) (add (var 3) (var 7)) .bound)
 
-sub-a4 : tie.Need-sub-a4
-sub-a4 c = fits (input c) (small c) a4 tt
+differences-within : (s : tie.Start) → RowWithin 524288 (map (val (place (input s))) differences)
+differences-within s =
+    four-within _ _ _ _ (within (ρ s) (sub (var 0) (var 4)) .bound) (within (ρ s) (sub (var 1) (var 5)) .bound)
+    (within (ρ s) (sub (var 2) (var 6)) .bound) (within (ρ s) (sub (var 3) (var 7)) .bound)
 
-sub-a5 : tie.Need-sub-a5
-sub-a5 c = fits (input c) (small c) a5 tt
+add-half : tie.Need-add-half
+add-half c = fit (ρ (c .before)) w32 (add (var 0) (var 4)) tt
 
-sub-a6 : tie.Need-sub-a6
-sub-a6 c = fits (input c) (small c) a6 tt
+add-half-2 : tie.Need-add-half-2
+add-half-2 c = fit (ρ (c .before)) w32 (add (var 1) (var 5)) tt
 
-sub-a7 : tie.Need-sub-a7
-sub-a7 c = fits (input c) (small c) a7 tt
+add-half-3 : tie.Need-add-half-3
+add-half-3 c = fit (ρ (c .before)) w32 (add (var 2) (var 6)) tt
 
-add-b0 : tie.Need-add-b0
-add-b0 c = fits (input c) (small c) b0 tt
+add-half-4 : tie.Need-add-half-4
+add-half-4 c = fit (ρ (c .before)) w32 (add (var 3) (var 7)) tt
 
-add-b1 : tie.Need-add-b1
-add-b1 c = fits (input c) (small c) b1 tt
+half-requires : tie.Need-half-requires
+half-requires c κs = (lit< tt, c .before .pre .0, subst (RowWithin 524288) (sym (sums-are (c .before))) (sums-within (c .before)))
 
-sub-b2 : tie.Need-sub-b2
-sub-b2 c = fits (input c) (small c) b2 tt
+sub-half : tie.Need-sub-half
+sub-half c = fit (ρ (c .before .before .before)) w32 (sub (var 0) (var 4)) tt
 
-sub-b3 : tie.Need-sub-b3
-sub-b3 c = fits (input c) (small c) b3 tt
+sub-half-2 : tie.Need-sub-half-2
+sub-half-2 c = fit (ρ (c .before .before .before)) w32 (sub (var 1) (var 5)) tt
 
-add-b4 : tie.Need-add-b4
-add-b4 c = fits (input c) (small c) b4 tt
+sub-half-3 : tie.Need-sub-half-3
+sub-half-3 c = fit (ρ (c .before .before .before)) w32 (sub (var 2) (var 6)) tt
 
-add-b5 : tie.Need-add-b5
-add-b5 c = fits (input c) (small c) b5 tt
+sub-half-4 : tie.Need-sub-half-4
+sub-half-4 c = fit (ρ (c .before .before .before)) w32 (sub (var 3) (var 7)) tt
 
-sub-b6 : tie.Need-sub-b6
-sub-b6 c = fits (input c) (small c) b6 tt
-
-sub-b7 : tie.Need-sub-b7
-sub-b7 c = fits (input c) (small c) b7 tt
-
-add-put-low : tie.Need-add-put-low
-add-put-low c = fits (input (c .before)) (small (c .before)) (add b0 b1) tt
-
-sub-put-low : tie.Need-sub-put-low
-sub-put-low c = fits (input (c .before)) (small (c .before)) (sub b0 b1) tt
-
-add-put-low-2 : tie.Need-add-put-low-2
-add-put-low-2 c = fits (input (c .before)) (small (c .before)) (add b2 b3) tt
-
-sub-put-low-2 : tie.Need-sub-put-low-2
-sub-put-low-2 c = fits (input (c .before)) (small (c .before)) (sub b2 b3) tt
-
-put-low-requires : tie.Need-put-low-requires
-put-low-requires c κs = search needs
-
-add-put-high : tie.Need-add-put-high
-add-put-high c = fits (input (c .before .before .before)) (small (c .before .before .before)) (add b4 b5) tt
-
-sub-put-high : tie.Need-sub-put-high
-sub-put-high c = fits (input (c .before .before .before)) (small (c .before .before .before)) (sub b4 b5) tt
-
-add-put-high-2 : tie.Need-add-put-high-2
-add-put-high-2 c = fits (input (c .before .before .before)) (small (c .before .before .before)) (add b6 b7) tt
-
-sub-put-high-2 : tie.Need-sub-put-high-2
-sub-put-high-2 c = fits (input (c .before .before .before)) (small (c .before .before .before)) (sub b6 b7) tt
-
-put-high-requires : tie.Need-put-high-requires
-put-high-requires c κs = search needs
-
-abbrev made : tie.Start → List ℤ
-made s = map (raw (machines (known (input s) (small s)))) results
+half-requires-2 : tie.Need-half-requires-2
+half-requires-2 c κs =
+    let s = c .before .before .before in
+    (lit< tt, s .pre .0, subst (RowWithin 524288) (sym (differences-are s)) (differences-within s))
 
 returns : tie.Need-returns
-unfolding sign ones onesIn pow one
 returns c =
     let s = c .before .before .before .before in
-    c .put-high .ensures
-    ∙ ap (λ (m : List (List ℤ)). put 7 (s .args .j) (place (made s) 7) (put 6 (s .args .j) (place (made s) 6) (put 5 (s .args .j) (place (made s) 5) (put 4 (s .args .j) (place (made s) 4) m)))) (c .before .before .put-low .ensures)
-    ∙ ap (λ (l : List ℤ). puts (place l) (s .args .j) (s .args .out .now) 8) (line-is (input s) (small s) results tt tt)
+    c .half2 .ensures
+    ∙ ap (λ (m : List (List ℤ)). four (place (wholeLine 4 (handed differences s))) 4 (s .args .j) m) (c .before .before .half .ensures)
+    ∙ ap (λ (l : List ℤ). puts (place l) (s .args .j) (s .args .out .now) 8)
+    (ap₂ (λ (l h : List ℤ). joined (wholeLine 4 l) (wholeLine 4 h)) (sums-are s) (differences-are s) ∙ two-lines (input s))
 
 pub line-spec : {M : Type 1} → statement M
 line-spec =
     tie.close
     (tie.spec
-    add-a0
-    add-a1
-    add-a2
-    add-a3
-    sub-a4
-    sub-a5
-    sub-a6
-    sub-a7
-    add-b0
-    add-b1
-    sub-b2
-    sub-b3
-    add-b4
-    add-b5
-    sub-b6
-    sub-b7
-    add-put-low
-    sub-put-low
-    add-put-low-2
-    sub-put-low-2
-    put-low-requires
-    add-put-high
-    sub-put-high
-    add-put-high-2
-    sub-put-high-2
-    put-high-requires
+    add-half
+    add-half-2
+    add-half-3
+    add-half-4
+    half-requires
+    sub-half
+    sub-half-2
+    sub-half-3
+    sub-half-4
+    half-requires-2
     returns)

@@ -19,21 +19,15 @@ abbrev μ-loop : tie.MeasureT-loop
 loop-holds : tie.Need-loop-holds Inv-loop μ-loop
 loop-holds c = summed-start
 
-mul-x : tie.Need-mul-x Inv-loop μ-loop
-mul-x c = omega arith
-
-array-copy-out-x : tie.Need-array-copy-out-x Inv-loop μ-loop
-array-copy-out-x c = omega arith
-
 row-sum-requires : tie.Need-row-sum-requires Inv-loop μ-loop
-row-sum-requires c κs = c .before .before .before .pre (c .before .before .loop .j)
+row-sum-requires c κs = (c .loop-test .taken, c .before .before .pre (c .before .loop .j))
 
 add-s : tie.Need-add-s Inv-loop μ-loop
 add-s c =
     omega (
       arith,
-      summed-next 16777216 (c .before .before .before .loop .inv) (omega arith) (c .row-sum .ensures)
-          (λ j h. row-most 8 2097152 (getD (c .before .before .before .before .args .t1) j []) (c .before .before .before .before .pre j)),
+      summed-next 16777216 (c .before .before .loop .inv) (omega arith) (c .row-sum .ensures)
+          (λ j h. row-most 8 2097152 (getD (c .before .before .before .args .m .now) j []) (c .before .before .before .pre j)),
     )
 
 add-j : tie.Need-add-j Inv-loop μ-loop
@@ -43,24 +37,11 @@ loop-less : tie.Need-loop-less Inv-loop μ-loop
 loop-less c = omega arith
 
 loop-again : tie.Need-loop-again Inv-loop μ-loop
-loop-again c = summed-step (c .before .before .before .loop .inv) (omega arith) (c .row-sum .ensures)
+loop-again c = summed-step (c .before .before .loop .inv) (omega arith) (c .row-sum .ensures)
 
 returns : tie.Need-returns Inv-loop μ-loop
 unfolding blockSizes
 returns c = summed-end (c .before .loop .inv) (omega arith)
 
 pub sum-spec : {M : Type 1} → statement M
-sum-spec =
-    tie.close
-    (tie.spec
-    Inv-loop
-    μ-loop
-    loop-holds
-    mul-x
-    array-copy-out-x
-    row-sum-requires
-    add-s
-    add-j
-    loop-less
-    loop-again
-    returns)
+sum-spec = tie.close (tie.spec Inv-loop μ-loop loop-holds row-sum-requires add-s add-j loop-less loop-again returns)

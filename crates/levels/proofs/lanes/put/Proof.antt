@@ -48,8 +48,9 @@ mul-e-2 c = search needs
 slice-set-from-e : tie.Need-slice-set-from-e
 slice-set-from-e c = search needs
 
+-- the difference fits, whichever half is taken from the other: which it is, is the result's business
 sub-e : tie.Need-sub-e
-sub-e c = fit (known (c .before)) w32 (sub (var 0) (var 1)) tt
+sub-e c = search (fit (known (c .before)) w32 (sub (var 0) (var 1)) tt, fit (known (c .before)) w32 (sub (var 1) (var 0)) tt)
 
 mul-t9 : tie.Need-mul-t9
 mul-t9 c = search needs

@@ -1,4 +1,4 @@
--- `levels::level16::level16` meets its contract: eight places after eight. Written by tools/levels.py.
+-- `levels::level16::level16` meets its contract: pass after pass. Written by tools/levels.py.
 -- Assumes nothing.
 use mathlib.Core.Path.{refl, _∙_}
 use lib.Dec.{lit≤}
@@ -12,14 +12,11 @@ table-requires c κs = tt
 rows16-0-requires : tie.Need-rows16-0-requires
 rows16-0-requires c κs = let s = c .before .before .before in (c .before .before .table .ensures, record { level = record { narrow = s .pre .0 .narrow; whole = refl; size = lit≤ tt; room = s .pre .1 }; part = λ j h. none (s .pre .0 .sums j h) })
 
-rows16-8-requires : tie.Need-rows16-8-requires
-rows16-8-requires c κs = (c .before .before .before .before .before .table .ensures, c .before .before .rows16-0 .ensures)
-
 same-length : tie.Need-same-length
-same-length c = c .before .rows16-8 .kept .1 .1 .0 ∙ c .before .before .before .before .rows16-0 .kept .1 .1 .0
+same-length c = c .before .rows16-0 .kept .1 .1 .0
 
 returns : tie.Need-returns
-returns c = record { narrow = c .before .rows16-8 .ensures .level .narrow; sums = λ j h. all (c .before .rows16-8 .ensures .part j h) }
+returns c = record { narrow = c .before .rows16-0 .ensures .level .narrow; sums = λ j h. all (c .before .rows16-0 .ensures .part j h) }
 
 pub level16-spec : {M : Type 1} → statement M
 level16-spec =
@@ -27,6 +24,5 @@ level16-spec =
     (tie.spec
     table-requires
     rows16-0-requires
-    rows16-8-requires
     same-length
     returns)

@@ -10,7 +10,7 @@ use Rattle.levels.proofs.level16.rows16_0.Statement.{statement}
 use Rattle.levels.proofs.level16.rows16_0.Tie as tie
 
 abbrev Inv-loop : tie.InvT-loop
-Inv-loop t s e₀ j₀ e j = Passed (Places s 16 0) (Places s 16 8) e₀ e j
+Inv-loop t s e₀ j₀ e j = Passed (Places s 16 0) (Places s 16 16) e₀ e j
 
 abbrev μ-loop : tie.MeasureT-loop
 μ-loop t s e₀ j₀ e j = 16 - j
@@ -33,6 +33,12 @@ places-requires c κs = (record { table = c .before .before .before .before .bef
 places-requires-2 : tie.Need-places-requires-2 Inv-loop μ-loop
 places-requires-2 c κs = (record { table = c .before .before .before .before .before .before .before .before .before .before .pre .0; lane = c .before .before .places .ensures .lane; picks = c .before .before .before .before .before .before .pick .ensures }, (lit≤ tt, lit≤ tt))
 
+places-requires-3 : tie.Need-places-requires-3 Inv-loop μ-loop
+places-requires-3 c κs = (record { table = c .before .before .before .before .before .before .before .before .before .before .before .before .before .pre .0; lane = c .before .before .places2 .ensures .lane; picks = c .before .before .before .before .before .before .before .before .before .pick .ensures }, (lit≤ tt, lit≤ tt))
+
+places-requires-4 : tie.Need-places-requires-4 Inv-loop μ-loop
+places-requires-4 c κs = (record { table = c .before .before .before .before .before .before .before .before .before .before .before .before .before .before .before .before .pre .0; lane = c .before .before .places3 .ensures .lane; picks = c .before .before .before .before .before .before .before .before .before .before .before .before .pick .ensures }, (lit≤ tt, lit≤ tt))
+
 add-j : tie.Need-add-j Inv-loop μ-loop
 add-j c = omega arith
 
@@ -40,7 +46,7 @@ loop-less : tie.Need-loop-less Inv-loop μ-loop
 loop-less c = omega arith
 
 loop-again : tie.Need-loop-again Inv-loop μ-loop
-loop-again c = passed-more (c .before .before .before .before .before .before .before .before .before .before .before .loop .inv) (c .before .before .before .before .before .before .before .before .before .before .loop-test .taken) (kept-then (c .before .before .before .before .places .ensures .kept) (c .before .places2 .ensures .kept)) (c .before .places2 .ensures .lane .part)
+loop-again c = passed-more (c .before .before .before .before .before .before .before .before .before .before .before .before .before .before .before .before .before .loop .inv) (c .before .before .before .before .before .before .before .before .before .before .before .before .before .before .before .before .loop-test .taken) (kept-then (c .before .before .before .before .before .before .before .before .before .before .places .ensures .kept) (kept-then (c .before .before .before .before .before .before .before .places2 .ensures .kept) (kept-then (c .before .before .before .before .places3 .ensures .kept) (c .before .places4 .ensures .kept)))) (c .before .places4 .ensures .lane .part)
 
 same-length : tie.Need-same-length Inv-loop μ-loop
 same-length c = c .before .loop .inv .long
@@ -60,6 +66,8 @@ rows16-0-spec =
     slice-aggregate-x
     places-requires
     places-requires-2
+    places-requires-3
+    places-requires-4
     add-j
     loop-less
     loop-again

@@ -1,4 +1,4 @@
--- `levels::level32::level32` meets its contract: eight places after eight. Written by tools/levels.py.
+-- `levels::level32::level32` meets its contract: pass after pass. Written by tools/levels.py.
 -- Assumes nothing.
 use mathlib.Core.Path.{refl, _∙_}
 use lib.Dec.{lit≤}
@@ -12,20 +12,14 @@ table-requires c κs = tt
 rows32-0-requires : tie.Need-rows32-0-requires
 rows32-0-requires c κs = let s = c .before .before .before in (c .before .before .table .ensures, record { level = record { narrow = s .pre .0 .narrow; whole = refl; size = lit≤ tt; room = s .pre .1 }; part = λ j h. none (s .pre .0 .sums j h) })
 
-rows32-8-requires : tie.Need-rows32-8-requires
-rows32-8-requires c κs = (c .before .before .before .before .before .table .ensures, c .before .before .rows32-0 .ensures)
-
 rows32-16-requires : tie.Need-rows32-16-requires
-rows32-16-requires c κs = (c .before .before .before .before .before .before .before .before .table .ensures, c .before .before .rows32-8 .ensures)
-
-rows32-24-requires : tie.Need-rows32-24-requires
-rows32-24-requires c κs = (c .before .before .before .before .before .before .before .before .before .before .before .table .ensures, c .before .before .rows32-16 .ensures)
+rows32-16-requires c κs = (c .before .before .before .before .before .table .ensures, c .before .before .rows32-0 .ensures)
 
 same-length : tie.Need-same-length
-same-length c = c .before .rows32-24 .kept .1 .1 .0 ∙ c .before .before .before .before .rows32-16 .kept .1 .1 .0 ∙ c .before .before .before .before .before .before .before .rows32-8 .kept .1 .1 .0 ∙ c .before .before .before .before .before .before .before .before .before .before .rows32-0 .kept .1 .1 .0
+same-length c = c .before .rows32-16 .kept .1 .1 .0 ∙ c .before .before .before .before .rows32-0 .kept .1 .1 .0
 
 returns : tie.Need-returns
-returns c = record { narrow = c .before .rows32-24 .ensures .level .narrow; sums = λ j h. all (c .before .rows32-24 .ensures .part j h) }
+returns c = record { narrow = c .before .rows32-16 .ensures .level .narrow; sums = λ j h. all (c .before .rows32-16 .ensures .part j h) }
 
 pub level32-spec : {M : Type 1} → statement M
 level32-spec =
@@ -33,8 +27,6 @@ level32-spec =
     (tie.spec
     table-requires
     rows32-0-requires
-    rows32-8-requires
     rows32-16-requires
-    rows32-24-requires
     same-length
     returns)

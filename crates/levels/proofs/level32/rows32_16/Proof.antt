@@ -10,7 +10,7 @@ use Rattle.levels.proofs.level32.rows32_16.Statement.{statement}
 use Rattle.levels.proofs.level32.rows32_16.Tie as tie
 
 abbrev Inv-loop : tie.InvT-loop
-Inv-loop t s e₀ j₀ e j = Passed (Places s 32 16) (Places s 32 24) e₀ e j
+Inv-loop t s e₀ j₀ e j = Passed (Places s 32 16) (Places s 32 32) e₀ e j
 
 abbrev μ-loop : tie.MeasureT-loop
 μ-loop t s e₀ j₀ e j = 16 - j
@@ -39,6 +39,18 @@ places-requires-3 c κs = (record { table = c .before .before .before .before .b
 places-requires-4 : tie.Need-places-requires-4 Inv-loop μ-loop
 places-requires-4 c κs = (record { table = c .before .before .before .before .before .before .before .before .before .before .before .before .before .before .before .before .pre .0; lane = c .before .before .places3 .ensures .lane; picks = c .before .before .before .before .before .before .before .before .before .before .before .before .pick .ensures }, (lit≤ tt, lit≤ tt))
 
+places-requires-5 : tie.Need-places-requires-5 Inv-loop μ-loop
+places-requires-5 c κs = (record { table = c .before .before .before .before .before .before .before .before .before .before .before .before .before .before .before .before .before .before .before .pre .0; lane = c .before .before .places4 .ensures .lane; picks = c .before .before .before .before .before .before .before .before .before .before .before .before .before .before .before .pick .ensures }, (lit≤ tt, lit≤ tt))
+
+places-requires-6 : tie.Need-places-requires-6 Inv-loop μ-loop
+places-requires-6 c κs = (record { table = c .before .before .before .before .before .before .before .before .before .before .before .before .before .before .before .before .before .before .before .before .before .before .pre .0; lane = c .before .before .places5 .ensures .lane; picks = c .before .before .before .before .before .before .before .before .before .before .before .before .before .before .before .before .before .before .pick .ensures }, (lit≤ tt, lit≤ tt))
+
+places-requires-7 : tie.Need-places-requires-7 Inv-loop μ-loop
+places-requires-7 c κs = (record { table = c .before .before .before .before .before .before .before .before .before .before .before .before .before .before .before .before .before .before .before .before .before .before .before .before .before .pre .0; lane = c .before .before .places6 .ensures .lane; picks = c .before .before .before .before .before .before .before .before .before .before .before .before .before .before .before .before .before .before .before .before .before .pick .ensures }, (lit≤ tt, lit≤ tt))
+
+places-requires-8 : tie.Need-places-requires-8 Inv-loop μ-loop
+places-requires-8 c κs = (record { table = c .before .before .before .before .before .before .before .before .before .before .before .before .before .before .before .before .before .before .before .before .before .before .before .before .before .before .before .before .pre .0; lane = c .before .before .places7 .ensures .lane; picks = c .before .before .before .before .before .before .before .before .before .before .before .before .before .before .before .before .before .before .before .before .before .before .before .before .pick .ensures }, (lit≤ tt, lit≤ tt))
+
 add-j : tie.Need-add-j Inv-loop μ-loop
 add-j c = omega arith
 
@@ -46,7 +58,7 @@ loop-less : tie.Need-loop-less Inv-loop μ-loop
 loop-less c = omega arith
 
 loop-again : tie.Need-loop-again Inv-loop μ-loop
-loop-again c = passed-more (c .before .before .before .before .before .before .before .before .before .before .before .before .before .before .before .before .before .loop .inv) (c .before .before .before .before .before .before .before .before .before .before .before .before .before .before .before .before .loop-test .taken) (kept-then (c .before .before .before .before .before .before .before .before .before .before .places .ensures .kept) (kept-then (c .before .before .before .before .before .before .before .places2 .ensures .kept) (kept-then (c .before .before .before .before .places3 .ensures .kept) (c .before .places4 .ensures .kept)))) (c .before .places4 .ensures .lane .part)
+loop-again c = passed-more (c .before .before .before .before .before .before .before .before .before .before .before .before .before .before .before .before .before .before .before .before .before .before .before .before .before .before .before .before .before .loop .inv) (c .before .before .before .before .before .before .before .before .before .before .before .before .before .before .before .before .before .before .before .before .before .before .before .before .before .before .before .before .loop-test .taken) (kept-then (c .before .before .before .before .before .before .before .before .before .before .before .before .before .before .before .before .before .before .before .before .before .before .places .ensures .kept) (kept-then (c .before .before .before .before .before .before .before .before .before .before .before .before .before .before .before .before .before .before .before .places2 .ensures .kept) (kept-then (c .before .before .before .before .before .before .before .before .before .before .before .before .before .before .before .before .places3 .ensures .kept) (kept-then (c .before .before .before .before .before .before .before .before .before .before .before .before .before .places4 .ensures .kept) (kept-then (c .before .before .before .before .before .before .before .before .before .before .places5 .ensures .kept) (kept-then (c .before .before .before .before .before .before .before .places6 .ensures .kept) (kept-then (c .before .before .before .before .places7 .ensures .kept) (c .before .places8 .ensures .kept)))))))) (c .before .places8 .ensures .lane .part)
 
 same-length : tie.Need-same-length Inv-loop μ-loop
 same-length c = c .before .loop .inv .long
@@ -68,6 +80,10 @@ rows32-16-spec =
     places-requires-2
     places-requires-3
     places-requires-4
+    places-requires-5
+    places-requires-6
+    places-requires-7
+    places-requires-8
     add-j
     loop-less
     loop-again

@@ -1,4 +1,4 @@
--- `levels::level8::level8` meets its contract: eight places after eight. Written by tools/levels.py.
+-- `levels::level8::level8` meets its contract: pass after pass. Written by tools/levels.py.
 -- Assumes nothing.
 use mathlib.Core.Path.{refl, _∙_}
 use lib.Dec.{lit≤}
