@@ -37,6 +37,10 @@ sizes : {X : Type 0} (s t : Bool) (us : List Test) (x y : X) → s || t ≡ true
 sizes true t us x y e = refused-at ((Size when true) ∷ (Size when t) ∷ us) 0 x y refl
 sizes false t us x y e = refused-at ((Size when false) ∷ (Size when t) ∷ us) 1 x y (refl, e)
 
+returns : tie.Need-returns
+unfolding dquantNumber dquantExit
+returns c = let a = c .before .args in sizes (ltb 6 (a .log2-w)) (ltb 6 (a .log2-h)) (rest (c .before)) _ _ (c .if1 .taken)
+
 passed : (c : tie.Else1) → (ltb 6 (c .before .args .log2-w) ≡ false) × (ltb 6 (c .before .args .log2-h) ≡ false)
 passed c = or-neither (ltb 6 (c .before .args .log2-w)) (ltb 6 (c .before .args .log2-h)) (c .if1 .left)
 
@@ -46,10 +50,6 @@ sum c = omega (arith, ltb-false 6 (c .before .args .log2-w) (passed c .0), ltb-f
 
 samples : (c : tie.Else2) → (1 * 2 ^ (start c .args .log2-w + start c .args .log2-h)) % 2 ^ 64 ≡ samplesOf (start c .args .log2-w) (start c .args .log2-h)
 samples c = one-shl w64 (start c .args .log2-w + start c .args .log2-h) (omega (arith, sum (c .before)))
-
-returns : tie.Need-returns
-unfolding dquantNumber dquantExit
-returns c = let a = c .before .args in sizes (ltb 6 (a .log2-w)) (ltb 6 (a .log2-h)) (rest (c .before)) _ _ (c .if1 .taken)
 
 returns-2 : tie.Need-returns-2
 unfolding dquantNumber dquantExit
