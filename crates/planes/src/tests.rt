@@ -60,7 +60,13 @@ fn too_short(n: usize, width: usize, height: usize, stride: usize) -> bool
 pub fn malformed(n: usize, width: usize, height: usize, stride: usize) -> bool
     ensures { λ r. ⌜ r ≡ badPlane n width height stride ⌝ }
 {
-    if outside(1, 16384, width) | outside(1, 16384, height) | (stride < width) {
+    if outside(1, 16384, width) {
+        return true;
+    }
+    if outside(1, 16384, height) {
+        return true;
+    }
+    if stride < width {
         return true;
     }
     too_short(n, width, height, stride)
@@ -95,7 +101,14 @@ pub fn outside_plane(
 ) -> bool
     ensures { λ r. ⌜ r ≡ outsidePlane n width height stride x y w h ⌝ }
 {
-    malformed(n, width, height, stride) | beyond(x, w, width) | beyond(y, h, height)
+    if malformed(n, width, height, stride) {
+        return true;
+    }
+    if beyond(x, w, width) {
+        true
+    } else {
+        beyond(y, h, height)
+    }
 }
 
 // The same where x and y may be negative: only the far edges count.
@@ -114,7 +127,11 @@ pub fn outside_edges(
     if malformed(n, width, height, stride) {
         return true;
     }
-    past(x, w, width) | past(y, h, height)
+    if past(x, w, width) {
+        true
+    } else {
+        past(y, h, height)
+    }
 }
 
 // A depth that is not allowed.

@@ -1,10 +1,7 @@
 -- `malformed` meets its contract. Assumes nothing.
-use mathlib.Core.Path.{_≡_, sym, ap₂, _∙_}
-use mathlib.Core.Bool.{Bool, false, _||_}
-use lib.Dec.{ltb}
+use mathlib.Core.Path.{sym, _∙_}
 use borrow.Author.Needs.{needs}
-use Rattle.order.proofs.Tests.{neither-left, neither-right, or-first, or-rest}
-use Rattle.evc.specs.Tests.{outside}
+use borrow.Author.Tests.{lt-ltb, le-ltb}
 use Rattle.evc.proofs.Tests.{outside-no}
 use Rattle.planes.proofs.tests.malformed.Statement.{statement}
 use Rattle.planes.proofs.tests.malformed.Tie as tie
@@ -12,30 +9,37 @@ use Rattle.planes.proofs.tests.malformed.Tie as tie
 outside-requires : tie.Need-outside-requires
 outside-requires c κs = search needs
 
+returns : tie.Need-returns
+returns c = rw (sym (c .before .outside .ensures) ∙ c .if1 .taken)
+
 outside-requires-2 : tie.Need-outside-requires-2
 outside-requires-2 c κs = search needs
 
--- what is tested before the rows
-abbrev front : tie.Start → Bool
-front c = let a = c .args in outside 1 16384 (a .width) || outside 1 16384 (a .height) || ltb (a .stride) (a .width)
+returns-2 : tie.Need-returns-2
+returns-2 c = rw (sym (c .before .before .before .outside .ensures) ∙ c .before .before .if1 .left, sym (c .before .outside2 .ensures) ∙ c .if2 .taken)
 
-tested : (c : tie.After-outside2) → (c .before .outside .result || c .outside2 .result) || ltb (c .before .before .args .stride) (c .before .before .args .width) ≡ front (c .before .before)
-tested c = rw (c .before .outside .ensures, c .outside2 .ensures)
-
-returns : tie.Need-returns
-returns c = or-first (front (c .before .before .before)) _ (sym (tested (c .before)) ∙ c .if1 .taken)
+returns-3 : tie.Need-returns-3
+returns-3 c =
+    let a = c .before .before .before .before .before .args in
+    rw (
+      sym (c .before .before .before .before .outside .ensures) ∙ c .before .before .before .if1 .left,
+      sym (c .before .before .outside2 .ensures) ∙ c .before .if2 .left,
+      lt-ltb (a .stride) (a .width) (c .if3 .taken),
+    )
 
 too-short-requires : tie.Need-too-short-requires
 too-short-requires c κs =
-    let a = c .before .before .before .args in
-    let e : front (c .before .before .before) ≡ false = sym (tested (c .before)) ∙ c .if1 .left in
-    let sides = neither-left (outside 1 16384 (a .width) || outside 1 16384 (a .height)) (ltb (a .stride) (a .width)) e in
-    outside-no 1 16384 (a .height) (neither-right (outside 1 16384 (a .width)) (outside 1 16384 (a .height)) sides)
+    outside-no 1 16384 (c .before .before .before .before .before .args .height) (sym (c .before .before .outside2 .ensures) ∙ c .before .if2 .left)
 
-returns-2 : tie.Need-returns-2
-returns-2 c =
-    let b = c .before in
-    or-rest _ (front (b .before .before .before)) _ (sym (tested (b .before)) ∙ b .if1 .left) (c .too-short .ensures)
+returns-4 : tie.Need-returns-4
+returns-4 c =
+    let a = c .before .before .before .before .before .before .args in
+    rw (
+      sym (c .before .before .before .before .before .outside .ensures) ∙ c .before .before .before .before .if1 .left,
+      sym (c .before .before .before .outside2 .ensures) ∙ c .before .before .if2 .left,
+      le-ltb (a .stride) (a .width) (c .before .if3 .left),
+    )
+    (c .too-short .ensures)
 
 pub malformed-spec : {M : Type 1} → statement M
-malformed-spec = tie.close (tie.spec outside-requires outside-requires-2 returns too-short-requires returns-2)
+malformed-spec = tie.close (tie.spec outside-requires returns outside-requires-2 returns-2 returns-3 too-short-requires returns-4)

@@ -1,10 +1,15 @@
 -- `outside_plane` meets its contract. Assumes nothing.
+use mathlib.Core.Path.{sym, _∙_}
 use borrow.Author.Needs.{needs}
+use Rattle.order.proofs.Tests.{or-second, or-third}
 use Rattle.planes.proofs.tests.outside_plane.Statement.{statement}
 use Rattle.planes.proofs.tests.outside_plane.Tie as tie
 
 malformed-requires : tie.Need-malformed-requires
 malformed-requires c κs = search needs
+
+returns : tie.Need-returns
+returns c = rw (sym (c .before .malformed .ensures) ∙ c .if1 .taken)
 
 beyond-requires : tie.Need-beyond-requires
 beyond-requires c κs = search needs
@@ -12,8 +17,14 @@ beyond-requires c κs = search needs
 beyond-requires-2 : tie.Need-beyond-requires-2
 beyond-requires-2 c κs = search needs
 
-returns : tie.Need-returns
-returns c = rw (c .before .before .malformed .ensures, c .before .beyond .ensures, c .beyond2 .ensures)
+returns-2 : tie.Need-returns-2
+returns-2 c =
+    or-second _ _ _ (sym (c .before .before .before .malformed .ensures) ∙ c .before .before .if1 .left) (sym (c .before .beyond .ensures) ∙ c .if2 .taken)
+
+returns-3 : tie.Need-returns-3
+returns-3 c =
+    or-third _ _ _ _ (sym (c .before .before .before .before .malformed .ensures) ∙ c .before .before .before .if1 .left)
+    (sym (c .before .before .beyond .ensures) ∙ c .before .if2 .left) (c .beyond2 .ensures)
 
 pub outside-plane-spec : {M : Type 1} → statement M
-outside-plane-spec = tie.close (tie.spec malformed-requires beyond-requires beyond-requires-2 returns)
+outside-plane-spec = tie.close (tie.spec malformed-requires returns beyond-requires beyond-requires-2 returns-2 returns-3)
