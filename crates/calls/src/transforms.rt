@@ -7,7 +7,7 @@ use crate::values::word;
 use evc::Answer;
 
 fn sub_block(c: Call, coef: &mut [i16]) {
-    let call = numbers::sub_block(
+    let call = records::sub_block(
         c.n0,
         c.n1,
         word(c.n2),
@@ -27,7 +27,7 @@ fn sub_block(c: Call, coef: &mut [i16]) {
 }
 
 fn job(c: Call, coef: &mut [i16]) -> Answer {
-    let job = numbers::job(
+    let job = records::job(
         c.n0,
         c.n1,
         c.n2,

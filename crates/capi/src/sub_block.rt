@@ -1,6 +1,6 @@
 // The sub-block call.
 ghost use mathlib.Core.Path.{_≡_};
-ghost use Rattle.numbers.specs.Given.{partOf, subBlockOf};
+ghost use Rattle.records.specs.Given.{partOf, subBlockOf};
 ghost use Rattle.capi.specs.Boundary.{SubDone};
 use numbers::tell_sub_block;
 
@@ -25,7 +25,7 @@ pub extern "C" fn tv_sub_block(
 ) -> u8
     ensures { λ r. ⌜ SubDone (subBlockOf «log2_w» «log2_h» offset «dq_shift» «it_shift» (partOf «flag_y» «start_y» «qp_y») (partOf «flag_u» «start_u» «qp_u») (partOf «flag_v» «start_v» «qp_v»)) (now (coef .entry)) (now (coef .exit)) (now (component .entry)) (now (component .exit)) r ⌝ }
 {
-    let call = numbers::sub_block(
+    let call = records::sub_block(
         log2_w,
         log2_h,
         offset,

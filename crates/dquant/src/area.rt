@@ -30,10 +30,11 @@ pub(crate) fn each(area: &mut [i16], scale: i32, offset: i32, shift: u8)
     ensures { λ _. ⌜ now (area .exit) ≡ map (dequantized scale offset shift) (now (area .entry)) ⌝ }
 {
     if area.len() % 4 != 0 {
-        run(&mut area[..], scale, offset, shift);
+        run(area, scale, offset, shift);
     } else {
         for i in 0..area.len() / 4 {
-            run(&mut area[i * 4..i * 4 + 4], scale, offset, shift);
+            let k = i * 4;
+            run(&mut area[k..k + 4], scale, offset, shift);
         }
     }
 }

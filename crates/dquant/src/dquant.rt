@@ -18,10 +18,7 @@ pub fn evc_dquant(
     ensures answer { λ r. ⌜ answerNumber r ≡ dquantNumber (length (now (coef .entry))) «log2_w» «log2_h» shift ⌝ }
     ensures exit { λ r. ⌜ now (coef .exit) ≡ dquantExit «log2_w» «log2_h» scale offset shift (now (coef .entry)) ⌝ }
 {
-    if 6 < log2_w {
-        return Answer::Refused(Refusal::Size);
-    }
-    if 6 < log2_h {
+    if (6 < log2_w) | (6 < log2_h) {
         return Answer::Refused(Refusal::Size);
     }
     if 31 < shift {

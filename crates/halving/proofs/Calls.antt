@@ -1,24 +1,16 @@
--- What a call's own proof and its callers cite: a size out of range, and a call on exactly its area. Assumes nothing.
+-- What a caller cites: a call on exactly its area. Assumes nothing.
 use mathlib.Core.Path.{_≡_, sym, _∙_}
-use mathlib.Core.Bool.{true}
 use mathlib.Core.List.{List}
-use Prim.Native.Nat.{ℕ, _^_, _≤_, _<_}
+use Prim.Native.Nat.{ℕ, _^_, _≤_}
 use native.Mathlib.Omega.{arith}
-use borrow.Author.Tests.{lt-ltb, le-ltb}
+use borrow.Author.Tests.{le-ltb}
 use lib.ListN.{length}
 use lib.IntN.{ℤ}
 use Rattle.integers.proofs.Written.{written-all}
-use Rattle.evc.specs.Tests.{outside, samplesOf}
+use Rattle.evc.specs.Tests.{samplesOf}
 use Rattle.evc.specs.Table.{tm}
 use Rattle.evc.specs.Stages.{stageOne, stageTwo, stageOneTests, stageTwoTests, stageOneNumber, stageTwoNumber, stageOneExit, stageTwoExit, itxb0Exit, itxb1Exit}
 use Rattle.evc.proofs.Tests.{first-none, inside-no}
-
--- ---- a size out of range
-pub below-one : (x : ℕ) → x < 1 → outside 1 6 x ≡ true
-below-one x h = rw (lt-ltb x 1 h)
-
-pub above-six : (x : ℕ) → 6 < x → outside 1 6 x ≡ true
-above-six x h = rw (le-ltb x 1 (omega arith), lt-ltb 6 x h)
 
 -- ---- buffers of exactly the area's places: the call is accepted, and the output is the stage of the input
 module _ (logn logl : ℕ) (src dst : List ℤ) (low : 1 ≤ logn) (n : logn ≤ 6) (l : logl ≤ 6) (a : length src ≡ samplesOf logn logl) (b : length dst ≡ samplesOf logn logl) where

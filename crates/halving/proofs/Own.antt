@@ -1,12 +1,12 @@
 -- Laws of own calls: what the guard's code shows test by test; what the code of an own call knows, and shows at its end; what a caller
 -- knows where no crate did the call. Assumes nothing.
 use mathlib.Core.Path.{_≡_, refl, sym, ap, _∙_}
-use mathlib.Core.Bool.{Bool, true, false, cond}
-use mathlib.Core.List.{List}
-use Prim.Native.Nat.{ℕ, _+_, _*_, _^_, _%_, _≤_, _<_}
+use mathlib.Core.Bool.{Bool, true, false, cond, not, _&&_, _||_, false≢true}
+use mathlib.Core.List.{List, [], _∷_}
+use Prim.Native.Nat.{ℕ, _*_, _^_, _%_, _≤_}
 use native.Mathlib.Omega.{arith}
-use borrow.Author.Tests.{ltb-false, leb-true, eqb-true, le-leb, lt-leb, eq-eqb, ne-eqb}
-use lib.Dec.{leb, eqb}
+use borrow.Author.Tests.{ltb-true, ltb-false, leb-true, eqb-true, le-leb, lt-leb, eq-eqb}
+use lib.Dec.{ltb, leb, eqb}
 use lib.ListN.{length}
 use lib.IntN.{ℤ}
 use mir.Syntax.{w64}
@@ -14,29 +14,47 @@ use Rattle.integers.specs.Lists.{written}
 use Rattle.integers.proofs.Bits.{one-shl}
 use Rattle.order.proofs.Tests.{and-both, not-both}
 use Rattle.evc.specs.Table.{tm}
-use Rattle.evc.specs.Tests.{Test, first}
+use Rattle.evc.specs.declared.Refusal.the-variants.{Size, Shift, Area}
+use Rattle.evc.specs.Tests.{Test, _when_, first}
 use Rattle.evc.specs.Stages.{stageOneAt, stageTwoAt, stageOneNumber, stageTwoNumber, stageTwoTests, stageOneExit, stageTwoExit}
-use Rattle.evc.proofs.Tests.{BrokenAt, refusalAt, number-some, first-at, unbroken, outside-no}
+use Rattle.evc.proofs.Tests.{unbroken, outside-no}
 use Rattle.halving.specs.Lines.{Rooms}
 use Rattle.halving.specs.Own.{own, Call, ownOne, ownTwo, doneOne, doneTwo}
 use Rattle.halving.proofs.Lines.{rooms, stage-end}
 
--- ---- the guard
-pub refused : (ts : List Test) (k : ℕ) → BrokenAt ts k → false ≡ eqb (first ts) 0
-refused ts k b = sym (ne-eqb (first ts) 0 (λ e. omega (arith, number-some (refusalAt ts k), first-at ts k b)))
+-- ---- the guard: tests that follow each other and answer alike are made as one
+leb-not : (x y : ℕ) → leb x y ≡ not (ltb y x)
+leb-not x y = go (ltb y x) refl
+  where
+    go : (t : Bool) → ltb y x ≡ t → leb x y ≡ not t
+    go true e = lt-leb x y (ltb-true y x e)
+    go false e = le-leb x y (ltb-false y x e)
+
+pub size-or-shift : (s t u : Bool) (ts : List Test) → s || t || u ≡ true → false ≡ eqb (first ((Size when s) ∷ (Size when t) ∷ (Shift when u) ∷ ts)) 0
+size-or-shift true t u ts e = refl
+size-or-shift false true u ts e = refl
+size-or-shift false false true ts e = refl
+size-or-shift false false false ts e = absurd (false≢true e)
+
+-- k is the number of samples as the code has it
+pub both-areas : (n m k : ℕ) → leb k n && leb k m ≡ eqb (first ((Area when ltb n k) ∷ (Area when ltb m k) ∷ [])) 0
+both-areas n m k = rw (leb-not k n, leb-not k m) (go (ltb n k) (ltb m k))
+  where
+    go : (s t : Bool) → not s && not t ≡ eqb (first ((Area when s) ∷ (Area when t) ∷ [])) 0
+    go true t = refl
+    go false true = refl
+    go false false = refl
 
 module _ (lo hi least a b z : ℕ) where
-  pub too-small : a < lo → false ≡ own lo hi least a b z
+  pub elsewhere : ltb a lo || ltb hi a || ltb b least ≡ true → false ≡ own lo hi least a b z
   unfolding own
-  too-small h = rw (lt-leb lo a h)
-
-  pub too-large : lo ≤ a → hi < a → false ≡ own lo hi least a b z
-  unfolding own
-  too-large g h = rw (le-leb lo a g, lt-leb a hi h)
-
-  pub too-few : lo ≤ a → a ≤ hi → b < least → false ≡ own lo hi least a b z
-  unfolding own
-  too-few f g h = rw (le-leb lo a f, le-leb a hi g, lt-leb least b h)
+  elsewhere e = rw (leb-not lo a, leb-not a hi, leb-not least b) (go (ltb a lo) (ltb hi a) (ltb b least) e)
+    where
+      go : (s t u : Bool) → s || t || u ≡ true → false ≡ not s && (not t && (not u && eqb z 0))
+      go true t u f = refl
+      go false true u f = refl
+      go false false true f = refl
+      go false false false f = absurd (false≢true f)
 
   pub within : lo ≤ a → a ≤ hi → least ≤ b → (r : Bool) → r ≡ eqb z 0 → r ≡ own lo hi least a b z
   unfolding own

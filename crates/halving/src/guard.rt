@@ -9,26 +9,11 @@ ghost use Rattle.halving.specs.Own.{own};
 fn accepted(n: usize, m: usize, log2_size: usize, log2_line: usize, shift: u8) -> bool
     ensures { λ r. ⌜ r ≡ eqb (stageTwoNumber n m «log2_size» «log2_line» shift) 0 ⌝ }
 {
-    if log2_size < 1 {
-        return false;
-    }
-    if 6 < log2_size {
-        return false;
-    }
-    if 6 < log2_line {
-        return false;
-    }
-    if 31 < shift {
+    if (log2_size < 1) | (6 < log2_size) | (6 < log2_line) | (31 < shift) {
         return false;
     }
     let k = 1usize << (log2_size + log2_line);
-    if n < k {
-        return false;
-    }
-    if m < k {
-        return false;
-    }
-    true
+    (k <= n) & (k <= m)
 }
 
 // The limits are literals where this is called, so that a compiler makes each crate its own test. Stage one's shift is 0.
@@ -44,13 +29,7 @@ pub fn mine(
 ) -> bool
     ensures { λ r. ⌜ r ≡ own lo hi least «log2_size» «log2_line» (stageTwoNumber n m «log2_size» «log2_line» shift) ⌝ }
 {
-    if log2_size < lo {
-        return false;
-    }
-    if hi < log2_size {
-        return false;
-    }
-    if log2_line < least {
+    if (log2_size < lo) | (hi < log2_size) | (log2_line < least) {
         return false;
     }
     accepted(n, m, log2_size, log2_line, shift)

@@ -1,3 +1,2 @@
--- What a caller hands in, and what it is told.
-pub mod Given
+-- What a caller is told.
 pub mod Told

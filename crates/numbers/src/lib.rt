@@ -1,12 +1,7 @@
-// Where the calls meet C: numbers handed in as the records that a call takes, its answer as the paper's number, and what an answer holds
-// besides into a caller's place.
+// Where the calls meet C: an answer as the paper's number, and what it holds besides into a caller's place.
 mod answers;
-mod jobs;
-mod sub_blocks;
 
 pub use answers::answer_number;
 pub use answers::tell_distortion;
 pub use answers::tell_squared;
 pub use answers::tell_sub_block;
-pub use jobs::job;
-pub use sub_blocks::sub_block;

@@ -16,43 +16,28 @@ ghost use Rattle.planes.specs.Areas.{badPlane, outsidePlane, outsideEdge
 fn outside(lo: usize, hi: usize, x: usize) -> bool
     ensures { λ r. ⌜ r ≡ of.outside lo hi x ⌝ }
 {
-    if x < lo { true } else { hi < x }
+    (x < lo) | (hi < x)
 }
 
 // Either side of a SAD's block is not allowed.
 pub fn sides(w: usize, h: usize) -> bool
     ensures { λ r. ⌜ r ≡ of.outside 1 64 w || of.outside 1 64 h ⌝ }
 {
-    if outside(1, 64, w) {
-        true
-    } else {
-        outside(1, 64, h)
-    }
-}
-
-// A side that SATD doesn't allow.
-fn no_even_side(x: usize) -> bool
-    ensures { λ r. ⌜ r ≡ of.outside 2 64 x || eqb (x % 2) 1 ⌝ }
-{
-    if outside(2, 64, x) { true } else { x % 2 == 1 }
+    outside(1, 64, w) | outside(1, 64, h)
 }
 
 // Either side of a SATD's block is not allowed.
 pub fn uneven_sides(w: usize, h: usize) -> bool
     ensures { λ r. ⌜ r ≡ (of.outside 2 64 w || eqb (w % 2) 1) || (of.outside 2 64 h || eqb (h % 2) 1) ⌝ }
 {
-    if no_even_side(w) {
-        true
-    } else {
-        no_even_side(h)
-    }
+    (outside(2, 64, w) | (w % 2 == 1)) | (outside(2, 64, h) | (h % 2 == 1))
 }
 
 // Either side's logarithm is not allowed.
 pub fn logs(log2_w: usize, log2_h: usize) -> bool
     ensures { λ r. ⌜ r ≡ ltb 6 «log2_w» || ltb 6 «log2_h» ⌝ }
 {
-    if 6 < log2_w { true } else { 6 < log2_h }
+    (6 < log2_w) | (6 < log2_h)
 }
 
 // n samples are too few for rows of this width, height and stride. The product of two large numbers isn't formed.
@@ -153,7 +138,7 @@ pub fn outside_edges(
 pub fn wrong_depth(depth: u8) -> bool
     ensures { λ r. ⌜ r ≡ of.outside 8 14 depth ⌝ }
 {
-    if depth < 8 { true } else { 14 < depth }
+    (depth < 8) | (14 < depth)
 }
 
 // Where the i-th position from p on reads: the larger of it and 0.

@@ -9,7 +9,7 @@ fn multiples(n: usize, w: usize, h: usize) -> bool
     requires { ⌜ 1 ≤ n ⌝ }
     ensures { λ r. ⌜ r ≡ of.multiples n w h ⌝ }
 {
-    if w % n == 0 { h % n == 0 } else { false }
+    (w % n == 0) & (h % n == 0)
 }
 
 // The side of a block's tiles: the largest that fits both sides.

@@ -31,17 +31,14 @@ loop-holds c = wrote-start (omega arith)
 room : (c : tie.In-loop Inv-loop μ-loop) → c .before .loop .i * 4 + 4 ≤ length (c .before .loop .area)
 room c = row-room (c .before .loop .inv) (c .loop-test .taken)
 
-mul-run : tie.Need-mul-run Inv-loop μ-loop
-mul-run c = omega (arith, room c, wrote-long (c .before .loop .inv), c .before .before .before .good)
-
-mul-run-2 : tie.Need-mul-run-2 Inv-loop μ-loop
-mul-run-2 c = omega (arith, room c, wrote-long (c .before .loop .inv), c .before .before .before .good)
+mul-k : tie.Need-mul-k Inv-loop μ-loop
+mul-k c = omega (arith, room c, wrote-long (c .before .loop .inv), c .before .before .before .good)
 
 add-run : tie.Need-add-run Inv-loop μ-loop
 add-run c = omega (arith, room c, wrote-long (c .before .loop .inv), c .before .before .before .good)
 
-mul-run-3 : tie.Need-mul-run-3 Inv-loop μ-loop
-mul-run-3 c = omega (arith, room c, wrote-long (c .before .loop .inv), c .before .before .before .good)
+mul-run : tie.Need-mul-run Inv-loop μ-loop
+mul-run c = omega (arith, room c, wrote-long (c .before .loop .inv), c .before .before .before .good)
 
 sub-run : tie.Need-sub-run Inv-loop μ-loop
 sub-run c = omega arith
@@ -95,10 +92,9 @@ each-spec =
     μ-loop
     run-requires
     loop-holds
-    mul-run
-    mul-run-2
+    mul-k
     add-run
-    mul-run-3
+    mul-run
     sub-run
     part-run-start
     part-run-end

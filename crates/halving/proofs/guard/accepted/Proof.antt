@@ -1,79 +1,54 @@
 -- `halving::guard::accepted` meets its contract: each return by the tests that led there. Assumes nothing.
-use borrow.Author.Needs.{needs}
-use borrow.Author.Tests.{lt-ltb, le-ltb}
-use mathlib.Core.Path.{_≡_, sym}
-use mathlib.Core.List.{List}
-use Prim.Native.Nat.{_+_, _*_, _^_, _%_}
+use borrow.Author.Tests.{ltb-false}
+use mathlib.Core.Path.{_≡_}
+use mathlib.Core.Bool.{false, _||_}
+use Prim.Native.Nat.{_+_, _*_, _^_, _%_, _≤_}
 use native.Mathlib.Omega.{arith}
+use lib.Dec.{ltb}
 use mir.Syntax.{w64}
 use Rattle.integers.proofs.Bits.{one-shl}
-use Rattle.evc.specs.Tests.{Test, samplesOf}
-use Rattle.evc.specs.Stages.{stageTwoTests, stageTwoNumber}
-use Rattle.evc.proofs.Tests.{first-none, inside-no}
-use Rattle.halving.proofs.Calls.{below-one, above-six}
-use Rattle.halving.proofs.Own.{refused}
+use Rattle.order.proofs.Tests.{or-neither}
+use Rattle.evc.specs.Tests.{outside, samplesOf}
+use Rattle.evc.specs.Stages.{stageTwoNumber, stageAreas}
+use Rattle.evc.proofs.Tests.{outside-no}
+use Rattle.halving.proofs.Own.{size-or-shift, both-areas}
 use Rattle.halving.proofs.guard.accepted.Statement.{statement}
 use Rattle.halving.proofs.guard.accepted.Tie as tie
 
-abbrev tests : tie.Start → List Test
-tests s = stageTwoTests (s .args .n) (s .args .m) (s .args .log2-size) (s .args .log2-line) (s .args .shift)
-
-abbrev start : tie.Else4 → tie.Start
-start c = c .before .before .before .before
-
--- the code's shift is the number of samples
-samples : (c : tie.Else4) → (1 * 2 ^ (start c .args .log2-size + start c .args .log2-line)) % 2 ^ 64 ≡ samplesOf (start c .args .log2-size) (start c .args .log2-line)
-samples c = one-shl w64 (start c .args .log2-size + start c .args .log2-line) (omega arith)
-
 returns : tie.Need-returns
 unfolding stageTwoNumber
-returns c = refused (tests (c .before)) 0 (below-one (c .before .args .log2-size) (c .if1 .taken))
+returns c =
+    let a = c .before .args in
+    size-or-shift (outside 1 6 (a .log2-size)) (ltb 6 (a .log2-line)) (ltb 31 (a .shift)) (stageAreas (a .n) (a .m) (a .log2-size) (a .log2-line)) (c .if1 .taken)
+
+-- what has passed
+sizes : (c : tie.Else1) → outside 1 6 (c .before .args .log2-size) || ltb 6 (c .before .args .log2-line) ≡ false
+sizes c = let a = c .before .args in or-neither (outside 1 6 (a .log2-size) || ltb 6 (a .log2-line)) (ltb 31 (a .shift)) (c .if1 .left) .0
+
+sum : (c : tie.Else1) → c .before .args .log2-size + c .before .args .log2-line ≤ 12
+sum c =
+    let n = c .before .args .log2-size in
+    let l = c .before .args .log2-line in
+    let o = or-neither (outside 1 6 n) (ltb 6 l) (sizes c) in
+    omega (arith, outside-no 1 6 n (o .0) .1, ltb-false 6 l (o .1))
+
+-- the code's shift is the number of samples
+samples : (c : tie.Else1) → (1 * 2 ^ (c .before .args .log2-size + c .before .args .log2-line)) % 2 ^ 64 ≡ samplesOf (c .before .args .log2-size) (c .before .args .log2-line)
+samples c = one-shl w64 (c .before .args .log2-size + c .before .args .log2-line) (omega (arith, sum c))
+
+add-k : tie.Need-add-k
+add-k c = omega (arith, sum c)
+
+shl-k : tie.Need-shl-k
+shl-k c = omega (arith, sum c)
 
 returns-2 : tie.Need-returns-2
 unfolding stageTwoNumber
-returns-2 c = refused (tests (c .before .before)) 0 (above-six (c .before .before .args .log2-size) (c .if2 .taken))
-
-returns-3 : tie.Need-returns-3
-unfolding stageTwoNumber
-returns-3 c =
-    let s = c .before .before .before in refused (tests s) 1 (inside-no 1 6 (s .args .log2-size) (omega arith) (omega arith), lt-ltb 6 (s .args .log2-line) (omega arith))
-
-returns-4 : tie.Need-returns-4
-unfolding stageTwoNumber
-returns-4 c =
-    let s = c .before .before .before .before in
-    refused (tests s) 2 (inside-no 1 6 (s .args .log2-size) (omega arith) (omega arith), (le-ltb 6 (s .args .log2-line) (omega arith), lt-ltb 31 (s .args .shift) (omega arith)))
-
-add-k : tie.Need-add-k
-add-k c = search needs
-
-shl-k : tie.Need-shl-k
-shl-k c = search needs
-
-returns-5 : tie.Need-returns-5
-unfolding stageTwoNumber
-returns-5 c =
-    let s = start (c .before) in
-    let h = rw (samples (c .before)) at (c .if5 .taken) in
-    refused (tests s) 3 (inside-no 1 6 (s .args .log2-size) (omega arith) (omega arith), (le-ltb 6 (s .args .log2-line) (omega arith), (le-ltb 31 (s .args .shift) (omega arith), lt-ltb (s .args .n) _ h)))
-
-returns-6 : tie.Need-returns-6
-unfolding stageTwoNumber
-returns-6 c =
-    let s = start (c .before .before) in
-    let r = rw (samples (c .before .before)) at (c .before .if5 .left) in
-    let h = rw (samples (c .before .before)) at (c .if6 .taken) in
-    refused (tests s) 4 (inside-no 1 6 (s .args .log2-size) (omega arith) (omega arith), (le-ltb 6 (s .args .log2-line) (omega arith), (le-ltb 31 (s .args .shift) (omega arith), (le-ltb (s .args .n) _ (omega arith), lt-ltb (s .args .m) _ h))))
-
-returns-7 : tie.Need-returns-7
-unfolding stageTwoNumber
-returns-7 c =
-    let s = start (c .before .before) in
-    let r = rw (samples (c .before .before)) at (c .before .if5 .left) in
-    let h = rw (samples (c .before .before)) at (c .if6 .left) in
-    rw (first-none (tests s) (inside-no 1 6 (s .args .log2-size) (omega arith) (omega arith), (le-ltb 6 (s .args .log2-line) (omega arith), (le-ltb 31 (s .args .shift) (omega arith), (le-ltb (s .args .n) _ (omega arith), (le-ltb (s .args .m) _ (omega arith), tt))))))
+returns-2 c =
+    let a = c .before .args in
+    let o = or-neither (outside 1 6 (a .log2-size)) (ltb 6 (a .log2-line)) (sizes c) in
+    let s = or-neither (outside 1 6 (a .log2-size) || ltb 6 (a .log2-line)) (ltb 31 (a .shift)) (c .if1 .left) in
+    rw (o .0, o .1, s .1, samples c) (both-areas (a .n) (a .m) (samplesOf (a .log2-size) (a .log2-line)))
 
 pub accepted-spec : {M : Type 1} → statement M
-accepted-spec =
-    tie.close
-    (tie.spec returns returns-2 returns-3 returns-4 add-k shl-k returns-5 returns-6 returns-7)
+accepted-spec = tie.close (tie.spec returns add-k shl-k returns-2)

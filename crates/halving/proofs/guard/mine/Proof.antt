@@ -1,24 +1,27 @@
 -- `halving::guard::mine` meets its contract: each return by the tests that led there. Assumes nothing.
 use borrow.Author.Needs.{needs}
-use native.Mathlib.Omega.{arith}
-use Rattle.halving.proofs.Own.{too-small, too-large, too-few, within}
+use borrow.Author.Tests.{ltb-false}
+use mathlib.Core.Bool.{_||_}
+use lib.Dec.{ltb}
+use Rattle.order.proofs.Tests.{or-neither}
+use Rattle.halving.proofs.Own.{elsewhere, within}
 use Rattle.halving.proofs.guard.mine.Statement.{statement}
 use Rattle.halving.proofs.guard.mine.Tie as tie
 
 returns : tie.Need-returns
-returns c = too-small _ _ _ _ _ _ (omega arith)
-
-returns-2 : tie.Need-returns-2
-returns-2 c = too-large _ _ _ _ _ _ (omega arith) (omega arith)
-
-returns-3 : tie.Need-returns-3
-returns-3 c = too-few _ _ _ _ _ _ (omega arith) (omega arith) (omega arith)
+returns c = let a = c .before .args in elsewhere (a .lo) (a .hi) (a .least) (a .log2-size) (a .log2-line) _ (c .if1 .taken)
 
 accepted-requires : tie.Need-accepted-requires
 accepted-requires c κs = search needs
 
-returns-4 : tie.Need-returns-4
-returns-4 c = within _ _ _ _ _ _ (omega arith) (omega arith) (omega arith) _ (c .accepted .ensures)
+returns-2 : tie.Need-returns-2
+returns-2 c =
+    let a = c .before .before .args in
+    let n = a .log2-size in
+    let l = a .log2-line in
+    let o = or-neither (ltb n (a .lo) || ltb (a .hi) n) (ltb l (a .least)) (c .before .if1 .left) in
+    let p = or-neither (ltb n (a .lo)) (ltb (a .hi) n) (o .0) in
+    within (a .lo) (a .hi) (a .least) n l _ (ltb-false n (a .lo) (p .0)) (ltb-false (a .hi) n (p .1)) (ltb-false l (a .least) (o .1)) _ (c .accepted .ensures)
 
 pub mine-spec : {M : Type 1} → statement M
-mine-spec = tie.close (tie.spec returns returns-2 returns-3 accepted-requires returns-4)
+mine-spec = tie.close (tie.spec returns accepted-requires returns-2)

@@ -1,6 +1,6 @@
 // A sub-block call as C hands it in.
 ghost use mathlib.Core.Path.{_≡_};
-ghost use Rattle.numbers.specs.Given.{partOf, subBlockOf};
+ghost use Rattle.records.specs.Given.{partOf, subBlockOf};
 use evc::Part;
 use evc::SubBlock;
 

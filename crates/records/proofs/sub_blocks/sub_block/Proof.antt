@@ -1,9 +1,9 @@
--- `numbers::sub_blocks::sub_block` meets its contract. Assumes nothing.
+-- `records::sub_blocks::sub_block` meets its contract. Assumes nothing.
 use borrow.Author.Needs.{needs}
 use mathlib.Core.Path.{refl}
 use mir.Facts.{toZ-ofZ}
-use Rattle.numbers.proofs.sub_blocks.sub_block.Statement.{statement}
-use Rattle.numbers.proofs.sub_blocks.sub_block.Tie as tie
+use Rattle.records.proofs.sub_blocks.sub_block.Statement.{statement}
+use Rattle.records.proofs.sub_blocks.sub_block.Tie as tie
 
 part-requires : tie.Need-part-requires
 part-requires c κs = search needs

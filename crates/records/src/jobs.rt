@@ -1,6 +1,6 @@
 // A job as C hands it in.
 ghost use mathlib.Core.Path.{_≡_};
-ghost use Rattle.numbers.specs.Given.{jobOf};
+ghost use Rattle.records.specs.Given.{jobOf};
 use evc::Job;
 
 pub fn job(

@@ -1,0 +1,2 @@
+-- What a caller hands in.
+pub mod Given
