@@ -1,4 +1,4 @@
-// Positions that may be negative: each negative column reads as 0, sample by sample. Document 01, "Distortion": where the Rust takes the larger
+// Positions that may be negative: each negative row or column reads as 0, sample by sample. Document 01, "Distortion": where the Rust takes the larger
 // of a position and 0.
 // Differs from the Rust in: positions are added in 32 bits, so that nothing wraps at 32767; a row is read once, before it is compared.
 ghost use mathlib.Core.Path.{_≡_};
@@ -10,6 +10,17 @@ ghost use lib.ListN.{length, getD};
 ghost use Rattle.integers.specs.Lists.{tab};
 ghost use Rattle.evc.specs.Planes as plane;
 ghost use Rattle.compare.specs.Edges.{behind, Least};
+use crate::Place;
+
+// Where row j of the block at (x, y) starts: a negative row reads as row 0, and a negative column as column 0.
+pub fn row_start(x: i16, y: i16, j: u16) -> Place
+    ensures { λ r. ⌜ (r .row ≡ plane.edge (y +ℤ pos j)) × (r .column ≡ plane.edge (x +ℤ pos 0)) ⌝ }
+{
+    Place {
+        row: planes::edge(y, j),
+        column: planes::edge(x, 0),
+    }
+}
 
 // Either position is negative.
 pub fn negative(x: i16, y: i16) -> bool

@@ -3,6 +3,13 @@ mod edges;
 
 pub use edges::edge_row;
 pub use edges::negative;
+pub use edges::row_start;
+
+// A sample's row and column in its plane.
+pub struct Place {
+    pub row: usize,
+    pub column: usize,
+}
 
 // A sum, and the OR of what SAMPLE looks at.
 pub struct Totals {

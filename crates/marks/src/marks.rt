@@ -1,10 +1,10 @@
-// SAMPLE, by marks that a loop ORs beside its sum: a sample is its own mark, and a mark that reaches 2^depth refuses the call. Document 01,
-// "Refusal numbers" and "Distortion".
-// Differs from the Rust in: the Rust tests nothing. The loops have no way out, so that they become vector code; the total is divided once, by a
-// depth that is an argument.
+// SAMPLE, by marks that a loop ORs beside its sum: a sample is its own mark, and a mark that reaches 2^depth refuses the call; and what is divided
+// by a depth. Document 01, "Refusal numbers" and "Distortion".
+// Differs from the Rust in: the Rust tests nothing. The loops have no way out, so that they become vector code; the total of a SAD is divided once,
+// by a depth that is an argument.
 ghost use mathlib.Core.Path.{_≡_};
 ghost use mathlib.Core.List.{[], _∷_};
-ghost use Prim.Native.Nat.{_-_, _/_, _^_};
+ghost use Prim.Native.Nat.{_*_, _-_, _/_, _%_, _^_};
 ghost use lib.Dec.{leb};
 ghost use Rattle.evc.specs.Answers.{distortionReading};
 ghost use Rattle.evc.specs.declared.Refusal.the-variants as number;
@@ -38,4 +38,11 @@ pub fn sad_answer(sum: u64, any: u16, depth: u8) -> Distortion
     }
     let value = sad as u32;
     Distortion::Value(value)
+}
+
+// By how many bits SSD divides a squared difference: 2 · (depth - 8) of a depth that is allowed, which the remainder doesn't change.
+pub fn square_shift(depth: u8) -> u8
+    ensures { λ r. ⌜ r ≡ 2 * (depth % 8) ⌝ }
+{
+    (depth % 8) * 2
 }

@@ -42,7 +42,8 @@ fn edge_rows(
     for j in 0..h {
         let from = at + j * stride;
         let to = from + w;
-        let base = planes::edge(mv_y, j as u16) * ref_stride;
+        let row = compare::row_start(mv_x, mv_y, j as u16).row;
+        let base = row * ref_stride;
         let t = edge_row(&org[from..to], &reference[base..], mv_x, w);
         sum = sum + t.sum;
         any = any | t.any;
@@ -68,6 +69,9 @@ pub(crate) fn total(
     if compare::negative(mv_x, mv_y) {
         return edge_rows(org, at, stride, reference, ref_stride, mv_x, mv_y, w, h);
     }
-    let from = planes::edge(mv_y, 0) * ref_stride + planes::edge(mv_x, 0);
+    let first = compare::row_start(mv_x, mv_y, 0);
+    let row = first.row;
+    let column = first.column;
+    let from = row * ref_stride + column;
     crate::blocks::sad_block(org, at, stride, reference, from, ref_stride, w, h)
 }

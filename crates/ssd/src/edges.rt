@@ -44,7 +44,7 @@ fn edge_rows(
     let mut sum: u64 = 0;
     let mut any: u16 = 0;
     for j in 0..h {
-        let row = planes::edge(y, j as u16);
+        let row = compare::row_start(x, y, j as u16).row;
         let p = row * stride1;
         let q = row * stride2;
         let t = edge_row(&one[p..], &two[q..], x, w, depth);
@@ -74,8 +74,9 @@ pub(crate) fn total(
     if compare::negative(x, y) {
         return edge_rows(one, stride1, two, stride2, x, y, w, h, depth);
     }
-    let row = planes::edge(y, 0);
-    let column = planes::edge(x, 0);
+    let first = compare::row_start(x, y, 0);
+    let row = first.row;
+    let column = first.column;
     let p = row * stride1 + column;
     let q = row * stride2 + column;
     crate::blocks::ssd_block(one, p, stride1, two, q, stride2, w, h, depth)

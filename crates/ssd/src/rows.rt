@@ -37,7 +37,7 @@ pub(crate) fn ssd_row(a: &[u16], b: &[u16], w: usize, depth: u8) -> Totals
     ensures { λ r. ⌜ RowsTold (squaredLow depth) w (now (a .entry)) (now (b .entry)) (r .sum) (r .any) ⌝ }
 {
     let mask = (1u16 << depth) - 1;
-    let shift = 2 * (depth - 8);
+    let shift = marks::square_shift(depth);
     let mut sum: u32 = 0;
     let mut any: u16 = 0;
     for i in 0..w {

@@ -48,21 +48,21 @@ mul-from c = omega (arith, one c, c .before .before .before .good)
 add-to : tie.Need-add-to Inv-loop μ-loop
 add-to c = omega (arith, one c, c .before .before .before .good)
 
-cast-edge : tie.Need-cast-edge Inv-loop μ-loop
-cast-edge c = omega (arith, c .before .before .before .pre .two .low)
+cast-row-start : tie.Need-cast-row-start Inv-loop μ-loop
+cast-row-start c = omega (arith, c .before .before .before .pre .two .low)
 
-edge-requires : tie.Need-edge-requires Inv-loop μ-loop
-edge-requires c κs = tt
+row-start-requires : tie.Need-row-start-requires Inv-loop μ-loop
+row-start-requires c κs = tt
 
 -- where row j of the second starts, and that it starts inside the plane
 starts :
-    (c : tie.After-edge Inv-loop μ-loop) →
-    let s = c .before .before .before .before in c .edge .result ≡ edge (s .args .mv-y +ℤ pos (c .before .before .loop .j))
+    (c : tie.After-row-start Inv-loop μ-loop) →
+    let s = c .before .before .before .before in c .row-start .result .row ≡ edge (s .args .mv-y +ℤ pos (c .before .before .loop .j))
 starts c =
     let s = c .before .before .before .before in
-    c .edge .ensures ∙ ap (λ (z : ℤ). edge (z +ℤ pos (c .before .before .loop .j))) (toZ-ofZ (s .fits .mv-y))
+    c .row-start .ensures .0 ∙ ap (λ (z : ℤ). edge (z +ℤ pos (c .before .before .loop .j))) (toZ-ofZ (s .fits .mv-y))
 
-inside : (c : tie.After-edge Inv-loop μ-loop) → let a = c .before .before .before .before .args in c .edge .result * a .ref-stride < length (a .reference .now)
+inside : (c : tie.After-row-start Inv-loop μ-loop) → let a = c .before .before .before .before .args in c .row-start .result .row * a .ref-stride < length (a .reference .now)
 inside c =
     let s = c .before .before .before .before in
     let e = ap (λ (n : ℕ). n * s .args .ref-stride) (starts c) in
@@ -116,7 +116,7 @@ told c =
     let j = c .before .before .before .before .before .loop .j in
     let x = toZ w16 (ofZ w16 (a .mv-x)) in
     let y = toZ w16 (ofZ w16 (a .mv-y)) in
-    let e = ap (λ (n : ℕ). n * a .ref-stride) (c .before .before .before .edge .ensures) in
+    let e = ap (λ (n : ℕ). n * a .ref-stride) (c .before .before .before .row-start .ensures .0) in
     told-ext (λ i. apartBi (cell (pos 0) (a .bi .now) 0 (a .w) j i) (edgeCell (a .reference .now) (a .ref-stride) x y j i))
     (λ i. bitOr (lowMark (cell (pos 0) (a .bi .now) 0 (a .w) j i)) (edgeCell (a .reference .now) (a .ref-stride) x y j i)) (c .edge-row .ensures .0)
     (λ i p. ap₂ apartBi (packed-at (a .bi .now) j (a .w) (pos 0) i p) (edge-at (a .reference .now) (a .ref-stride) x y _ j i e))
@@ -159,8 +159,8 @@ edge-rows-spec =
     loop-holds
     mul-from
     add-to
-    cast-edge
-    edge-requires
+    cast-row-start
+    row-start-requires
     mul-base
     mul-edge-row
     sub-edge-row

@@ -27,18 +27,18 @@ plain c =
     (ap₂ (λ (x y : ℤ). ltZ x (pos 0) || ltZ y (pos 0)) (sym (toZ-ofZ (s .fits .mv-x))) (sym (toZ-ofZ (s .fits .mv-y))) ∙ sym (c .before .negative .ensures) ∙ c .if1 .left)
 
 -- where the block stands, inside the plane
-row : (c : tie.After-edge) → c .edge .result ≡ edge (c .before .before .before .before .args .mv-y +ℤ pos 0)
-row c = c .edge .ensures ∙ ap (λ (z : ℤ). edge (z +ℤ pos 0)) (toZ-ofZ (c .before .before .before .before .fits .mv-y))
+row : (c : tie.After-row-start) → c .row-start .result .row ≡ edge (c .before .before .before .before .args .mv-y +ℤ pos 0)
+row c = c .row-start .ensures .0 ∙ ap (λ (z : ℤ). edge (z +ℤ pos 0)) (toZ-ofZ (c .before .before .before .before .fits .mv-y))
 
 stands :
-    (c : tie.After-edge2) →
-    let a = c .before .before .before .before .before .args in
-    c .before .edge .result * a .ref-stride + c .edge2 .result ≡ edge (a .mv-y +ℤ pos 0) * a .ref-stride + edge (a .mv-x +ℤ pos 0)
+    (c : tie.After-row-start) →
+    let a = c .before .before .before .before .args in
+    c .row-start .result .row * a .ref-stride + c .row-start .result .column ≡ edge (a .mv-y +ℤ pos 0) * a .ref-stride + edge (a .mv-x +ℤ pos 0)
 stands c =
-    let s = c .before .before .before .before .before in
-    ap₂ (λ (m n : ℕ). m * s .args .ref-stride + n) (row (c .before)) (c .edge2 .ensures ∙ ap (λ (z : ℤ). edge (z +ℤ pos 0)) (toZ-ofZ (s .fits .mv-x)))
+    let s = c .before .before .before .before in
+    ap₂ (λ (m n : ℕ). m * s .args .ref-stride + n) (row c) (c .row-start .ensures .1 ∙ ap (λ (z : ℤ). edge (z +ℤ pos 0)) (toZ-ofZ (s .fits .mv-x)))
 
-first : (c : tie.After-edge) → let a = c .before .before .before .before .args in edge (a .mv-y +ℤ pos 0) * a .ref-stride + edge (a .mv-x +ℤ pos 0) < length (a .reference .now)
+first : (c : tie.After-row-start) → let a = c .before .before .before .before .args in edge (a .mv-y +ℤ pos 0) * a .ref-stride + edge (a .mv-x +ℤ pos 0) < length (a .reference .now)
 first c = let p = c .before .before .before .before .pre .two in p .reads 0 0 (p .high) (p .wide)
 
 negative-requires : tie.Need-negative-requires
@@ -57,34 +57,31 @@ returns c =
     (s .fits .mv-x) (s .fits .mv-y)
     (counted-all (a .w) (a .h) (cell (pos 0) (a .bi .now) 0 (a .w)) (edgeCell (a .reference .now) (a .ref-stride) (toZ w16 (ofZ w16 (a .mv-x))) (toZ w16 (ofZ w16 (a .mv-y)))) (t .0) (s .pre .two .low) (t .1))
 
-edge-requires : tie.Need-edge-requires
-edge-requires c κs = search needs
+row-start-requires : tie.Need-row-start-requires
+row-start-requires c κs = search needs
 
 mul-from : tie.Need-mul-from
 mul-from c = omega (arith, ap (λ (n : ℕ). n * c .before .before .before .before .args .ref-stride) (row c), first c, c .before .before .before .before .good)
 
-edge-requires-2 : tie.Need-edge-requires-2
-edge-requires-2 c κs = search needs
-
 add-from : tie.Need-add-from
-add-from c = omega (arith, stands c, first (c .before), c .before .before .before .before .before .good)
+add-from c = omega (arith, stands c, first c, c .before .before .before .before .good)
 
 total-requires : tie.Need-total-requires
 total-requires c κs =
-    let s = c .before .before .before .before .before in
+    let s = c .before .before .before .before in
     let a = s .args in
     record {
       narrow = s .pre .two .narrow;
       low = s .pre .two .low;
       one = s .pre .one;
-      two = plain-inside (a .reference .now) (a .ref-stride) (a .mv-x) (a .mv-y) (a .w) (a .h) _ (plain (c .before .before)) (stands c) (s .pre .two);
+      two = plain-inside (a .reference .now) (a .ref-stride) (a .mv-x) (a .mv-y) (a .w) (a .h) _ (plain (c .before)) (stands c) (s .pre .two);
     }
 
 returns-2 : tie.Need-returns-2
 returns-2 c =
-    let s = c .before .before .before .before .before .before in
+    let s = c .before .before .before .before .before in
     let a = s .args in
-    let e = plain-at (a .reference .now) (a .ref-stride) (a .mv-x) (a .mv-y) (a .w) (a .h) _ (plain (c .before .before .before)) (stands (c .before)) in
+    let e = plain-at (a .reference .now) (a .ref-stride) (a .mv-x) (a .mv-y) (a .w) (a .h) _ (plain (c .before .before)) (stands (c .before)) in
     counted-ext (a .w) (a .h) (cell (pos 0) (a .bi .now) 0 (a .w)) _ (edgeCell (a .reference .now) (a .ref-stride) (a .mv-x) (a .mv-y)) e (c .total .ensures)
 
 pub total-spec : {M : Type 1} → statement M
@@ -94,9 +91,8 @@ total-spec =
     negative-requires
     edge-rows-requires
     returns
-    edge-requires
+    row-start-requires
     mul-from
-    edge-requires-2
     add-from
     total-requires
     returns-2)

@@ -26,18 +26,18 @@ plain c =
     (ap₂ (λ (x y : ℤ). ltZ x (pos 0) || ltZ y (pos 0)) (sym (toZ-ofZ (s .fits .mv-x))) (sym (toZ-ofZ (s .fits .mv-y))) ∙ sym (c .before .negative .ensures) ∙ c .if1 .left)
 
 -- where the block stands, inside the plane
-row : (c : tie.After-edge) → c .edge .result ≡ edge (c .before .before .before .before .before .args .mv-y +ℤ pos 0)
-row c = c .edge .ensures ∙ ap (λ (z : ℤ). edge (z +ℤ pos 0)) (toZ-ofZ (c .before .before .before .before .before .fits .mv-y))
+row : (c : tie.After-row-start) → c .row-start .result .row ≡ edge (c .before .before .before .before .before .args .mv-y +ℤ pos 0)
+row c = c .row-start .ensures .0 ∙ ap (λ (z : ℤ). edge (z +ℤ pos 0)) (toZ-ofZ (c .before .before .before .before .before .fits .mv-y))
 
 stands :
-    (c : tie.After-edge2) →
-    let a = c .before .before .before .before .before .before .args in
-    c .before .edge .result * a .ref-stride + c .edge2 .result ≡ edge (a .mv-y +ℤ pos 0) * a .ref-stride + edge (a .mv-x +ℤ pos 0)
+    (c : tie.After-row-start) →
+    let a = c .before .before .before .before .before .args in
+    c .row-start .result .row * a .ref-stride + c .row-start .result .column ≡ edge (a .mv-y +ℤ pos 0) * a .ref-stride + edge (a .mv-x +ℤ pos 0)
 stands c =
-    let s = c .before .before .before .before .before .before in
-    ap₂ (λ (m n : ℕ). m * s .args .ref-stride + n) (row (c .before)) (c .edge2 .ensures ∙ ap (λ (z : ℤ). edge (z +ℤ pos 0)) (toZ-ofZ (s .fits .mv-x)))
+    let s = c .before .before .before .before .before in
+    ap₂ (λ (m n : ℕ). m * s .args .ref-stride + n) (row c) (c .row-start .ensures .1 ∙ ap (λ (z : ℤ). edge (z +ℤ pos 0)) (toZ-ofZ (s .fits .mv-x)))
 
-first : (c : tie.After-edge) → let a = c .before .before .before .before .before .args in edge (a .mv-y +ℤ pos 0) * a .ref-stride + edge (a .mv-x +ℤ pos 0) < length (a .reference .now)
+first : (c : tie.After-row-start) → let a = c .before .before .before .before .before .args in edge (a .mv-y +ℤ pos 0) * a .ref-stride + edge (a .mv-x +ℤ pos 0) < length (a .reference .now)
 first c = let p = c .before .before .before .before .before .pre .two in p .reads 0 0 (p .high) (p .wide)
 
 negative-requires : tie.Need-negative-requires
@@ -53,34 +53,31 @@ returns c =
     of-bits (λ x y. BlocksTold apart (a .w) (a .h) (cell 0 (a .org .now) (a .at) (a .stride)) (edgeCell (a .reference .now) (a .ref-stride) x y) (c .edge-rows .result .sum) (c .edge-rows .result .any))
     (s .fits .mv-x) (s .fits .mv-y) (c .edge-rows .ensures)
 
-edge-requires : tie.Need-edge-requires
-edge-requires c κs = search needs
+row-start-requires : tie.Need-row-start-requires
+row-start-requires c κs = search needs
 
 mul-from : tie.Need-mul-from
 mul-from c = omega (arith, ap (λ (n : ℕ). n * c .before .before .before .before .before .args .ref-stride) (row c), first c, c .before .before .before .before .before .good)
 
-edge-requires-2 : tie.Need-edge-requires-2
-edge-requires-2 c κs = search needs
-
 add-from : tie.Need-add-from
-add-from c = omega (arith, stands c, first (c .before), c .before .before .before .before .before .before .good)
+add-from c = omega (arith, stands c, first c, c .before .before .before .before .before .good)
 
 sad-block-requires : tie.Need-sad-block-requires
 sad-block-requires c κs =
-    let s = c .before .before .before .before .before .before in
+    let s = c .before .before .before .before .before in
     let a = s .args in
     record {
       narrow = s .pre .two .narrow;
       low = s .pre .two .low;
       one = s .pre .one;
-      two = plain-inside (a .reference .now) (a .ref-stride) (a .mv-x) (a .mv-y) (a .w) (a .h) _ (plain (c .before .before)) (stands c) (s .pre .two);
+      two = plain-inside (a .reference .now) (a .ref-stride) (a .mv-x) (a .mv-y) (a .w) (a .h) _ (plain (c .before)) (stands c) (s .pre .two);
     }
 
 returns-2 : tie.Need-returns-2
 returns-2 c =
-    let s = c .before .before .before .before .before .before .before in
+    let s = c .before .before .before .before .before .before in
     let a = s .args in
-    let e = plain-at (a .reference .now) (a .ref-stride) (a .mv-x) (a .mv-y) (a .w) (a .h) _ (plain (c .before .before .before)) (stands (c .before)) in
+    let e = plain-at (a .reference .now) (a .ref-stride) (a .mv-x) (a .mv-y) (a .w) (a .h) _ (plain (c .before .before)) (stands (c .before)) in
     let A = cell 0 (a .org .now) (a .at) (a .stride) in
     let B = edgeCell (a .reference .now) (a .ref-stride) (a .mv-x) (a .mv-y) in
     compared-ext (λ j i. apart (A j i) (B j i)) (λ j i. bitOr (A j i) (B j i)) (c .sad-block .ensures) (λ j i m n. ap (apart (A j i)) (e j i))
@@ -93,9 +90,8 @@ total-spec =
     negative-requires
     edge-rows-requires
     returns
-    edge-requires
+    row-start-requires
     mul-from
-    edge-requires-2
     add-from
     sad-block-requires
     returns-2)

@@ -32,27 +32,27 @@ abbrev μ-loop : tie.MeasureT-loop
 loop-holds : tie.Need-loop-holds Inv-loop μ-loop
 loop-holds c = running-start
 
-cast-edge : tie.Need-cast-edge Inv-loop μ-loop
-cast-edge c = omega (arith, c .before .before .before .before .pre .0 .low)
+cast-row-start : tie.Need-cast-row-start Inv-loop μ-loop
+cast-row-start c = omega (arith, c .before .before .before .before .pre .0 .low)
 
-edge-requires : tie.Need-edge-requires Inv-loop μ-loop
-edge-requires c κs = tt
+row-start-requires : tie.Need-row-start-requires Inv-loop μ-loop
+row-start-requires c κs = tt
 
 -- where row j of each block starts, inside its plane
 starts :
-    (c : tie.After-edge Inv-loop μ-loop) →
-    let s = c .before .before .before .before .before in c .edge .result ≡ edge (s .args .y +ℤ pos (c .before .before .loop .j))
+    (c : tie.After-row-start Inv-loop μ-loop) →
+    let s = c .before .before .before .before .before in c .row-start .result .row ≡ edge (s .args .y +ℤ pos (c .before .before .loop .j))
 starts c =
     let s = c .before .before .before .before .before in
-    c .edge .ensures ∙ ap (λ (z : ℤ). edge (z +ℤ pos (c .before .before .loop .j))) (toZ-ofZ (s .fits .y))
+    c .row-start .ensures .0 ∙ ap (λ (z : ℤ). edge (z +ℤ pos (c .before .before .loop .j))) (toZ-ofZ (s .fits .y))
 
-inside1 : (c : tie.After-edge Inv-loop μ-loop) → let a = c .before .before .before .before .before .args in c .edge .result * a .stride1 < length (a .one .now)
+inside1 : (c : tie.After-row-start Inv-loop μ-loop) → let a = c .before .before .before .before .before .args in c .row-start .result .row * a .stride1 < length (a .one .now)
 inside1 c =
     let s = c .before .before .before .before .before in
     let e = ap (λ (n : ℕ). n * s .args .stride1) (starts c) in
     omega (arith, e, s .pre .0 .reads (c .before .before .loop .j) 0 (c .before .loop-test .taken) (s .pre .0 .wide))
 
-inside2 : (c : tie.After-edge Inv-loop μ-loop) → let a = c .before .before .before .before .before .args in c .edge .result * a .stride2 < length (a .two .now)
+inside2 : (c : tie.After-row-start Inv-loop μ-loop) → let a = c .before .before .before .before .before .args in c .row-start .result .row * a .stride2 < length (a .two .now)
 inside2 c =
     let s = c .before .before .before .before .before in
     let e = ap (λ (n : ℕ). n * s .args .stride2) (starts c) in
@@ -110,8 +110,8 @@ module _ (c : tie.After-edge-row Inv-loop μ-loop) where
       let j = c .before .before .before .before .before .loop .j in
       let x = toZ w16 (ofZ w16 (a .x)) in
       let y = toZ w16 (ofZ w16 (a .y)) in
-      let e = ap (λ (n : ℕ). n * a .stride1) (c .before .before .before .edge .ensures) in
-      let f = ap (λ (n : ℕ). n * a .stride2) (c .before .before .before .edge .ensures) in
+      let e = ap (λ (n : ℕ). n * a .stride1) (c .before .before .before .row-start .ensures .0) in
+      let f = ap (λ (n : ℕ). n * a .stride2) (c .before .before .before .row-start .ensures .0) in
       told-ext (λ i. squaredLow d (F j i) (G j i)) (λ i. bitOr (F j i) (G j i)) (c .edge-row .ensures)
       (λ i p. ap₂ (squaredLow d) (edge-at (a .one .now) (a .stride1) x y _ j i e) (edge-at (a .two .now) (a .stride2) x y _ j i f))
       (λ i p. ap₂ bitOr (edge-at (a .one .now) (a .stride1) x y _ j i e) (edge-at (a .two .now) (a .stride2) x y _ j i f))
@@ -151,8 +151,8 @@ edge-rows-spec =
     Inv-loop
     μ-loop
     loop-holds
-    cast-edge
-    edge-requires
+    cast-row-start
+    row-start-requires
     mul-p
     mul-q
     mul-edge-row

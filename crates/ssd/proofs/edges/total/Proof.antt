@@ -27,23 +27,23 @@ plain c =
 
 -- where the blocks stand, inside their planes
 stands :
-    (c : tie.After-edge2) (stride : ℕ) →
-    let a = c .before .before .before .before .before .before .args in
-    c .before .edge .result * stride + c .edge2 .result ≡ edge (a .y +ℤ pos 0) * stride + edge (a .x +ℤ pos 0)
+    (c : tie.After-row-start) (stride : ℕ) →
+    let a = c .before .before .before .before .before .args in
+    c .row-start .result .row * stride + c .row-start .result .column ≡ edge (a .y +ℤ pos 0) * stride + edge (a .x +ℤ pos 0)
 stands c stride =
-    let s = c .before .before .before .before .before .before in
-    ap₂ (λ (m n : ℕ). m * stride + n) (c .before .edge .ensures ∙ ap (λ (z : ℤ). edge (z +ℤ pos 0)) (toZ-ofZ (s .fits .y)))
-    (c .edge2 .ensures ∙ ap (λ (z : ℤ). edge (z +ℤ pos 0)) (toZ-ofZ (s .fits .x)))
+    let s = c .before .before .before .before .before in
+    ap₂ (λ (m n : ℕ). m * stride + n) (c .row-start .ensures .0 ∙ ap (λ (z : ℤ). edge (z +ℤ pos 0)) (toZ-ofZ (s .fits .y)))
+    (c .row-start .ensures .1 ∙ ap (λ (z : ℤ). edge (z +ℤ pos 0)) (toZ-ofZ (s .fits .x)))
 
-first1 : (c : tie.After-edge2) → let a = c .before .before .before .before .before .before .args in c .before .edge .result * a .stride1 + c .edge2 .result < length (a .one .now)
+first1 : (c : tie.After-row-start) → let a = c .before .before .before .before .before .args in c .row-start .result .row * a .stride1 + c .row-start .result .column < length (a .one .now)
 first1 c =
-    let s = c .before .before .before .before .before .before in
+    let s = c .before .before .before .before .before in
     let p = s .pre .0 in
     omega (arith, stands c (s .args .stride1), p .reads 0 0 (p .high) (p .wide))
 
-first2 : (c : tie.After-edge2) → let a = c .before .before .before .before .before .before .args in c .before .edge .result * a .stride2 + c .edge2 .result < length (a .two .now)
+first2 : (c : tie.After-row-start) → let a = c .before .before .before .before .before .args in c .row-start .result .row * a .stride2 + c .row-start .result .column < length (a .two .now)
 first2 c =
-    let s = c .before .before .before .before .before .before in
+    let s = c .before .before .before .before .before in
     let p = s .pre .1 .0 in
     omega (arith, stands c (s .args .stride2), p .reads 0 0 (p .high) (p .wide))
 
@@ -63,42 +63,39 @@ returns c =
     (c .edge-rows .result .sum) (c .edge-rows .result .any))
     (s .fits .x) (s .fits .y) (c .edge-rows .ensures)
 
-edge-requires : tie.Need-edge-requires
-edge-requires c κs = search needs
-
-edge-requires-2 : tie.Need-edge-requires-2
-edge-requires-2 c κs = search needs
+row-start-requires : tie.Need-row-start-requires
+row-start-requires c κs = search needs
 
 mul-p : tie.Need-mul-p
-mul-p c = omega (arith, first1 c, c .before .before .before .before .before .before .good)
+mul-p c = omega (arith, first1 c, c .before .before .before .before .before .good)
 
 add-p : tie.Need-add-p
-add-p c = omega (arith, first1 c, c .before .before .before .before .before .before .good)
+add-p c = omega (arith, first1 c, c .before .before .before .before .before .good)
 
 mul-q : tie.Need-mul-q
-mul-q c = omega (arith, first2 c, c .before .before .before .before .before .before .good)
+mul-q c = omega (arith, first2 c, c .before .before .before .before .before .good)
 
 add-q : tie.Need-add-q
-add-q c = omega (arith, first2 c, c .before .before .before .before .before .before .good)
+add-q c = omega (arith, first2 c, c .before .before .before .before .before .good)
 
 ssd-block-requires : tie.Need-ssd-block-requires
 ssd-block-requires c κs =
-    let s = c .before .before .before .before .before .before in
+    let s = c .before .before .before .before .before in
     let a = s .args in (
       record {
         narrow = s .pre .0 .narrow;
         low = s .pre .0 .low;
-        one = plain-inside (a .one .now) (a .stride1) (a .x) (a .y) (a .w) (a .h) _ (plain (c .before .before)) (stands c (a .stride1)) (s .pre .0);
-        two = plain-inside (a .two .now) (a .stride2) (a .x) (a .y) (a .w) (a .h) _ (plain (c .before .before)) (stands c (a .stride2)) (s .pre .1 .0);
+        one = plain-inside (a .one .now) (a .stride1) (a .x) (a .y) (a .w) (a .h) _ (plain (c .before)) (stands c (a .stride1)) (s .pre .0);
+        two = plain-inside (a .two .now) (a .stride2) (a .x) (a .y) (a .w) (a .h) _ (plain (c .before)) (stands c (a .stride2)) (s .pre .1 .0);
       },
       s .pre .1 .1,
     )
 
 returns-2 : tie.Need-returns-2
 returns-2 c =
-    let s = c .before .before .before .before .before .before .before in
+    let s = c .before .before .before .before .before .before in
     let a = s .args in
-    let k = plain (c .before .before .before) in
+    let k = plain (c .before .before) in
     let e = plain-at (a .one .now) (a .stride1) (a .x) (a .y) (a .w) (a .h) _ k (stands (c .before) (a .stride1)) in
     let f = plain-at (a .two .now) (a .stride2) (a .x) (a .y) (a .w) (a .h) _ k (stands (c .before) (a .stride2)) in
     let A = edgeCell (a .one .now) (a .stride1) (a .x) (a .y) in
@@ -113,8 +110,7 @@ total-spec =
     negative-requires
     edge-rows-requires
     returns
-    edge-requires
-    edge-requires-2
+    row-start-requires
     mul-p
     add-p
     mul-q

@@ -1,14 +1,15 @@
 -- `ssd_row` meets its contract. Assumes nothing.
-use Prim.Native.Nat.{ℕ, _-_, _*_, _≤_}
+use Prim.Native.Nat.{ℕ, _-_, _*_, _%_, _^_, _≤_}
+use native.Mathlib.Nat.{le-trans, le-of-eq}
 use native.Mathlib.Omega.{arith}
-use mathlib.Core.Path.{_≡_, refl, _∙_}
+use mathlib.Core.Path.{_≡_, refl, ap, _∙_}
 use mathlib.Core.List.{List}
-use lib.Bits.{bitOr}
+use lib.Bits.{bitAnd, bitOr}
 use lib.ListN.{getD}
 use lib.Pow.{pow-pos}
 use mir.Syntax.{w16}
 use Rattle.integers.proofs.Bits.{one-shl}
-use Rattle.ssd.specs.Squares.{squaredLow}
+use Rattle.ssd.specs.Squares.{squared, squaredLow}
 use Rattle.ssd.proofs.Squares.{cut, cut-small, cut-squared, squared-low-le}
 use Rattle.compare.proofs.Running.{Running, running-start, running-step, running-end}
 use borrow.Author.Needs.{needs}
@@ -17,23 +18,23 @@ use Rattle.ssd.proofs.rows.ssd_row.Tie as tie
 
 abbrev Inv-loop : tie.InvT-loop
 Inv-loop a b w depth mask shift sum₀ any₀ i₀ sum any i =
-    Running w (λ k. squaredLow depth (getD a k 0) (getD b k 0)) (λ k. bitOr (getD a k 0) (getD b k 0)) sum any i × (sum ≤ i * 65535) × (shift ≡ 2 * (depth - 8))
+    Running w (λ k. squaredLow depth (getD a k 0) (getD b k 0)) (λ k. bitOr (getD a k 0) (getD b k 0)) sum any i × (sum ≤ i * 65535)
 
 abbrev μ-loop : tie.MeasureT-loop
 μ-loop a b w depth mask shift sum₀ any₀ i₀ sum any i = w - i
 
 -- the two rows, the place, and the depth
 abbrev rowA : tie.After-share Inv-loop μ-loop → List ℕ
-rowA c = c .before .before .before .before .before .before .before .args .a .now
+rowA c = c .before .before .before .before .before .before .before .before .args .a .now
 
 abbrev rowB : tie.After-share Inv-loop μ-loop → List ℕ
-rowB c = c .before .before .before .before .before .before .before .args .b .now
+rowB c = c .before .before .before .before .before .before .before .before .args .b .now
 
 abbrev at : tie.After-share Inv-loop μ-loop → ℕ
 at c = c .before .before .before .before .loop .i
 
 abbrev depthOf : tie.After-share Inv-loop μ-loop → ℕ
-depthOf c = c .before .before .before .before .before .before .before .args .depth
+depthOf c = c .before .before .before .before .before .before .before .before .args .depth
 
 shl-mask : tie.Need-shl-mask Inv-loop μ-loop
 shl-mask c = omega (arith, c .before .before .pre .1)
@@ -43,14 +44,11 @@ sub-mask c =
     let a = c .before .before .args in
     omega (arith, one-shl w16 (a .depth) (omega (arith, c .before .before .pre .1)), pow-pos (a .depth))
 
-sub-shift : tie.Need-sub-shift Inv-loop μ-loop
-sub-shift c = omega (arith, c .before .before .pre .1)
-
-mul-shift : tie.Need-mul-shift Inv-loop μ-loop
-mul-shift c = omega (arith, c .before .before .pre .1)
+square-shift-requires : tie.Need-square-shift-requires Inv-loop μ-loop
+square-shift-requires c κs = tt
 
 loop-holds : tie.Need-loop-holds Inv-loop μ-loop
-loop-holds c = (running-start, omega arith, refl)
+loop-holds c = (running-start, omega arith)
 
 mul-p : tie.Need-mul-p Inv-loop μ-loop
 mul-p c = omega arith
@@ -64,9 +62,22 @@ mul-q c = omega arith
 shared-slice-read-q : tie.Need-shared-slice-read-q Inv-loop μ-loop
 shared-slice-read-q c = omega arith
 
+-- what two samples add, by the shift that the code has
+is-low :
+    (c : tie.At-loop Inv-loop μ-loop) (p q : ℕ) →
+    let a = c .before .before .before .before .args in
+    let m = (1 * 2 ^ a .depth) % 2 ^ 16 - 1 in
+    squared (c .before .square-shift .result) (bitAnd p m) (bitAnd q m) ≡ squaredLow (a .depth) p q
+is-low c p q =
+    let s = c .before .before .before .before in
+    let d = s .pre .1 in
+    let m = (1 * 2 ^ s .args .depth) % 2 ^ 16 - 1 in
+    let e : c .before .square-shift .result ≡ 2 * (s .args .depth - 8) = omega (arith, c .before .square-shift .ensures) in
+    ap (λ (n : ℕ). squared n (bitAnd p m) (bitAnd q m)) e ∙ cut-squared (s .args .depth) p q (omega arith)
+
 share-requires : tie.Need-share-requires Inv-loop μ-loop
 share-requires c κs =
-    let s = c .before .before .before .before .before .before in
+    let s = c .before .before .before .before .before .before .before in
     let a = s .args in
     let i = c .before .before .before .loop .i in
     let p = getD (a .a .now) i 0 in
@@ -77,21 +88,19 @@ share-requires c κs =
         omega (arith, cut q (a .depth) (omega arith), cut-small q (a .depth) h),
         omega (arith, h),
       ),
-      omega (arith, cut-squared (a .depth) p q (omega arith), squared-low-le (a .depth) p q (s .pre .1 .0)),
+      le-trans (le-of-eq (is-low (c .before .before .before) p q)) (squared-low-le (a .depth) p q (s .pre .1 .0)),
     )
 
 -- the summand of this turn, and what it is at most
 summand : (c : tie.After-share Inv-loop μ-loop) → c .share .result ≡ squaredLow (depthOf c) (getD (rowA c) (at c) 0) (getD (rowB c) (at c) 0)
-summand c =
-    let h = c .before .before .before .before .before .before .before .pre .1 .1 in
-    c .share .ensures ∙ cut-squared (depthOf c) (getD (rowA c) (at c) 0) (getD (rowB c) (at c) 0) (omega arith)
+summand c = c .share .ensures ∙ is-low (c .before .before .before .before) (getD (rowA c) (at c) 0) (getD (rowB c) (at c) 0)
 
 most : (c : tie.After-share Inv-loop μ-loop) → c .share .result ≤ 65535
 most c =
-    omega (arith, summand c, squared-low-le (depthOf c) (getD (rowA c) (at c) 0) (getD (rowB c) (at c) 0) (c .before .before .before .before .before .before .before .pre .1 .0))
+    omega (arith, summand c, squared-low-le (depthOf c) (getD (rowA c) (at c) 0) (getD (rowB c) (at c) 0) (c .before .before .before .before .before .before .before .before .pre .1 .0))
 
 add-sum : tie.Need-add-sum Inv-loop μ-loop
-add-sum c = omega (arith, most c, c .before .before .before .before .loop .inv .1, c .before .before .before .before .before .before .before .pre .0 .small)
+add-sum c = omega (arith, most c, c .before .before .before .before .loop .inv .1, c .before .before .before .before .before .before .before .before .pre .0 .small)
 
 add-i : tie.Need-add-i Inv-loop μ-loop
 add-i c = omega arith
@@ -102,7 +111,7 @@ loop-less c = omega arith
 loop-again : tie.Need-loop-again Inv-loop μ-loop
 loop-again c =
     let l = c .before .before .before .before .loop in
-    (running-step (l .inv .0) (omega arith) (summand c) refl, omega (arith, most c, l .inv .1), l .inv .2)
+    (running-step (l .inv .0) (omega arith) (summand c) refl, omega (arith, most c, l .inv .1))
 
 cast-all : tie.Need-cast-all Inv-loop μ-loop
 cast-all c = search needs
@@ -118,8 +127,7 @@ ssd-row-spec =
     μ-loop
     shl-mask
     sub-mask
-    sub-shift
-    mul-shift
+    square-shift-requires
     loop-holds
     mul-p
     shared-slice-read-p
