@@ -3,7 +3,7 @@
 use mathlib.Core.Path.{_≡_, refl, sym, ap, _∙_}
 use mathlib.Core.Bool.{Bool, true, false, cond, not, _&&_, _||_, false≢true}
 use mathlib.Core.List.{List, [], _∷_}
-use Prim.Native.Nat.{ℕ, _*_, _^_, _%_, _≤_}
+use Prim.Native.Nat.{ℕ, _*_, _^_, _%_, _≤_, _<_}
 use native.Mathlib.Omega.{arith}
 use borrow.Author.Tests.{ltb-true, ltb-false, leb-true, eqb-true, le-leb, lt-leb, eq-eqb}
 use lib.Dec.{ltb, leb, eqb}
@@ -55,6 +55,10 @@ module _ (lo hi least a b z : ℕ) where
       go false true u f = refl
       go false false true f = refl
       go false false false f = absurd (false≢true f)
+
+  pub too-large : lo ≤ a → hi < a → false ≡ own lo hi least a b z
+  unfolding own
+  too-large g h = rw (le-leb lo a g, lt-leb a hi h)
 
   pub within : lo ≤ a → a ≤ hi → least ≤ b → (r : Bool) → r ≡ eqb z 0 → r ≡ own lo hi least a b z
   unfolding own
