@@ -1,17 +1,24 @@
 // One line of the input.
 use crate::answer;
+use crate::choice::either_byte;
 use crate::distortions;
 use crate::entry;
-use crate::fault;
+use crate::fault::malformed;
 use crate::out::end;
 use crate::out::text;
 use crate::read::Call;
+use crate::read::NONE;
+use crate::read::bare;
 use crate::read::read;
+use crate::token::LONG;
 use crate::token::NOTHING;
 use crate::token::byte_at;
 use crate::token::seek;
 use crate::transforms;
 use crate::values;
+
+// The least length of a line that is too long.
+const LONGEST: usize = 524288;
 
 // A call that takes buffers.
 fn buffered(line: &[u8], c: Call) {
@@ -41,19 +48,21 @@ fn called(line: &[u8], from: usize, name: &[u8], row: u64) {
     if c.fault == NOTHING {
         made(line, c);
     } else {
-        fault::malformed(name, row, c);
+        malformed(line, from, name, row, c);
     }
 }
 
-// Answers a line: a comment is repeated, an empty line is passed over, and whatever else is a call or is told to be none.
+// Answers a line: a comment is repeated, an empty line is passed over, and whatever else is a call or is told to be none. One that is too long is left
+// out; what is matched is then a byte that no line has.
 pub(crate) fn answered(line: &[u8], name: &[u8], row: u64) {
     let from = seek(line, 0, false);
-    match byte_at(line, from) {
+    match either_byte(line.len() < LONGEST, byte_at(line, from), b'\n') {
         b' ' => {}
         b'#' => {
             text(line);
             end();
         }
+        b'\n' => malformed(line, from, name, row, bare(NONE, LONGEST, LONG)),
         _ => called(line, from, name, row),
     }
 }

@@ -18,26 +18,22 @@ mod values;
 
 use libc::STDIN_FILENO;
 
-// Replays a file. What can't be opened can't be read either, and is told where it is read.
-fn open(path: &[u8]) {
-    let fd = os::open_read(path);
-    if fd < 0 {
-        os::fail(path);
-    }
-    input::replay(fd, path);
-    libc::close(fd);
-}
-
-// Replays the file that an argument names.
+// Replays the file that an argument names. What can't be opened can't be read either, and is told where it is read.
 fn file(i: usize) {
     let mut path = io::buffer();
     let n = os::arg(i, &mut path);
-    if (os::errno() != 0) | (n == 0) {
+    if n == 0 {
         let what = &b"an argument"[..];
         os::fail(what);
         input::replay(-1, what);
     } else {
-        open(&path[0..n]);
+        let name = &path[0..n];
+        let fd = os::open_read(name);
+        if fd < 0 {
+            os::fail(name);
+        }
+        input::replay(fd, name);
+        libc::close(fd);
     }
 }
 
