@@ -6,7 +6,7 @@ use crate::line;
 use crate::out;
 use crate::values::least;
 
-// One byte longer than the longest line that is not left out.
+// Room for a line that is just too long, and for the byte that ends it.
 type Text = [u8; 524289];
 
 // The first `kept` bytes of the line with the number `row` are kept; those past the buffer's end are not. `open`: there may be more to read.
@@ -27,7 +27,7 @@ fn told(name: &[u8], s: State, got: isize) {
     }
 }
 
-// Reads one byte more. A line that has its end is answered; where nothing is read, the last line ends.
+// Reads one byte more. A line that has its end is answered; where nothing is read, the byte stays what it is and ends the last line.
 fn turn(fd: i32, name: &[u8], text: &mut Text, s: State) -> State {
     let mut one = [b'\n'];
     let got = libc::read(fd, &mut one);

@@ -17,8 +17,8 @@ use crate::token::seek;
 use crate::transforms;
 use crate::values;
 
-// The least length of a line that is too long.
-const LONGEST: usize = 524288;
+// From this length on a line is too long.
+const TOO_LONG: usize = 524288;
 
 // A call that takes buffers.
 fn buffered(line: &[u8], c: Call) {
@@ -43,26 +43,24 @@ fn made(line: &[u8], c: Call) {
     end();
 }
 
-fn called(line: &[u8], from: usize, name: &[u8], row: u64) {
-    let c = read(line, from);
-    if c.fault == NOTHING {
-        made(line, c);
-    } else {
-        malformed(line, from, name, row, c);
-    }
-}
-
-// Answers a line: a comment is repeated, an empty line is passed over, and whatever else is a call or is told to be none. One that is too long is left
-// out; what is matched is then a byte that no line has.
+// Answers a line: a comment is repeated, an empty line is passed over, and whatever else is a call or is told to be none. One that is too long is
+// left out; what is matched is then a byte that no line has.
 pub(crate) fn answered(line: &[u8], name: &[u8], row: u64) {
     let from = seek(line, 0, false);
-    match either_byte(line.len() < LONGEST, byte_at(line, from), b'\n') {
+    match either_byte(line.len() < TOO_LONG, byte_at(line, from), b'\n') {
         b' ' => {}
         b'#' => {
             text(line);
             end();
         }
-        b'\n' => malformed(line, from, name, row, bare(NONE, LONGEST, LONG)),
-        _ => called(line, from, name, row),
+        b'\n' => malformed(line, from, name, row, bare(NONE, TOO_LONG, LONG)),
+        _ => {
+            let c = read(line, from);
+            if c.fault == NOTHING {
+                made(line, c);
+            } else {
+                malformed(line, from, name, row, c);
+            }
+        }
     }
 }

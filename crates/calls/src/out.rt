@@ -19,10 +19,6 @@ fn byte(b: u8) {
     text(&[b]);
 }
 
-pub(crate) fn number(v: u64) {
-    io::print_decimal(STDOUT_FILENO, v);
-}
-
 // The absolute value. Of the least i64 too, whose negation no i64 holds.
 fn magnitude(v: i64) -> u64 {
     if v < 0 {
@@ -38,7 +34,7 @@ pub(crate) fn signed(v: i64) {
     if v < 0 {
         byte(b'-');
     }
-    number(magnitude(v));
+    io::print_decimal(STDOUT_FILENO, magnitude(v));
 }
 
 // Whether the row behind a place of a text has the name that `key` has from `from` on: where the two part, both end.
