@@ -115,18 +115,15 @@ fn measured(c: Call, bi: &[i16], one: &[u16], two: &[u16]) {
 }
 
 // Calls, and says what came.
-fn answered(c: Call, shorts: &mut [i16], one: &[u16], two: &[u16]) {
+fn with_one(line: &[u8], c: Call, shorts: &mut [i16], one: &[u16]) {
+    let mut space = [0u16; 16384];
+    let j = values::samples(line, c.two, &mut space);
+    let two = &space[0..j];
     if c.tag == b'g' {
         diff(c, one, two, shorts);
     } else {
         measured(c, shorts, one, two);
     }
-}
-
-fn with_one(line: &[u8], c: Call, shorts: &mut [i16], one: &[u16]) {
-    let mut two = [0u16; 16384];
-    let j = values::samples(line, c.two, &mut two);
-    answered(c, shorts, one, &two[0..j]);
 }
 
 pub(crate) fn compare(line: &[u8], c: Call, shorts: &mut [i16]) {

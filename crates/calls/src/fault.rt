@@ -1,43 +1,24 @@
 // What is said of a line that is no call, and of an input that can't be read. It goes where the answer would stand.
+use crate::choice::either_byte;
 use crate::entry::form;
 use crate::out::end;
-use crate::out::number;
 use crate::out::text;
 use crate::out::words;
 use crate::read::Call;
+use crate::read::NONE;
+use libc::STDOUT_FILENO;
 
-// The input's name, if it has one.
-fn input(name: &[u8]) {
+// A line that is no call: the input's name, if it has one; the line and the column, counted from 1; what is wrong, and how the call is written.
+pub(crate) fn malformed(line: &[u8], from: usize, name: &[u8], row: u64, c: Call) {
     words(b'e');
     text(name);
-    if 0 < name.len() {
-        words(b',');
-    }
-}
-
-// The line and the column, counted from 1.
-fn place(row: u64, at: usize) {
-    words(b'i');
-    number(row);
+    words(either_byte(0 < name.len(), b',', b'i'));
+    io::print_decimal(STDOUT_FILENO, row);
     words(b'c');
-    number(std::num::wrapping_add_usize(at, 1) as u64);
-}
-
-// What is wrong, and how the call is written.
-fn what(c: Call) {
+    io::print_decimal(STDOUT_FILENO, std::num::wrapping_add_usize(c.at, 1) as u64);
     words(c.fault);
     words(c.kind);
-    if b'a' <= c.tag {
-        words(b';');
-        form(c.tag, 20);
-    }
-}
-
-// A line that is no call.
-pub(crate) fn malformed(name: &[u8], row: u64, c: Call) {
-    input(name);
-    place(row, c.at);
-    what(c);
+    form(c.tag, line, from);
     end();
 }
 
@@ -45,8 +26,6 @@ pub(crate) fn malformed(name: &[u8], row: u64, c: Call) {
 pub(crate) fn unread(name: &[u8]) {
     words(b'u');
     text(name);
-    if name.len() == 0 {
-        words(b'a');
-    }
+    words(either_byte(name.len() == 0, b'a', NONE));
     end();
 }

@@ -1,17 +1,24 @@
 // One line of the input.
 use crate::answer;
+use crate::choice::either_byte;
 use crate::distortions;
 use crate::entry;
-use crate::fault;
+use crate::fault::malformed;
 use crate::out::end;
 use crate::out::text;
 use crate::read::Call;
+use crate::read::NONE;
+use crate::read::bare;
 use crate::read::read;
+use crate::token::LONG;
 use crate::token::NOTHING;
 use crate::token::byte_at;
 use crate::token::seek;
 use crate::transforms;
 use crate::values;
+
+// From this length on a line is too long.
+const TOO_LONG: usize = 524288;
 
 // A call that takes buffers.
 fn buffered(line: &[u8], c: Call) {
@@ -36,24 +43,24 @@ fn made(line: &[u8], c: Call) {
     end();
 }
 
-fn called(line: &[u8], from: usize, name: &[u8], row: u64) {
-    let c = read(line, from);
-    if c.fault == NOTHING {
-        made(line, c);
-    } else {
-        fault::malformed(name, row, c);
-    }
-}
-
-// Answers a line: a comment is repeated, an empty line is passed over, and whatever else is a call or is told to be none.
+// Answers a line: a comment is repeated, an empty line is passed over, and whatever else is a call or is told to be none. One that is too long is
+// left out; what is matched is then a byte that no line has.
 pub(crate) fn answered(line: &[u8], name: &[u8], row: u64) {
     let from = seek(line, 0, false);
-    match byte_at(line, from) {
+    match either_byte(line.len() < TOO_LONG, byte_at(line, from), b'\n') {
         b' ' => {}
         b'#' => {
             text(line);
             end();
         }
-        _ => called(line, from, name, row),
+        b'\n' => malformed(line, from, name, row, bare(NONE, TOO_LONG, LONG)),
+        _ => {
+            let c = read(line, from);
+            if c.fault == NOTHING {
+                made(line, c);
+            } else {
+                malformed(line, from, name, row, c);
+            }
+        }
     }
 }

@@ -1,6 +1,7 @@
 // Replays calls of the codec's entry points, one to a line, and writes their answers: for trying a call by hand, and for holding recorded answers
-// against the code. `usage` says what a line is. From the bottom: `out` writes, `token` and `read` read, `entry` knows the calls, `values` has
-// numbers as the calls take them, `answer` and `fault` say, `transforms` and `distortions` call, `line` answers one line and `input` all of them.
+// against the code. `usage` says what a line is. From the bottom: `token` reads a number, `out` writes, `entry` knows the calls, `read` reads
+// them, `values` has numbers as the calls take them, `answer` and `fault` say, `transforms` and `distortions` call, `line` answers one line and
+// `input` all of them.
 // Nothing here promises more than to be safe and to end: the meaning of the answers is promised by the crates that are called, and that the text is
 // read and written right is shown by the recorded runs.
 mod answer;
@@ -18,26 +19,22 @@ mod values;
 
 use libc::STDIN_FILENO;
 
-// Replays a file. What can't be opened can't be read either, and is told where it is read.
-fn open(path: &[u8]) {
-    let fd = os::open_read(path);
-    if fd < 0 {
-        os::fail(path);
-    }
-    input::replay(fd, path);
-    libc::close(fd);
-}
-
-// Replays the file that an argument names.
+// Replays the file that an argument names. What can't be opened can't be read either, and is told where it is read.
 fn file(i: usize) {
     let mut path = io::buffer();
     let n = os::arg(i, &mut path);
-    if (os::errno() != 0) | (n == 0) {
+    if n == 0 {
         let what = &b"an argument"[..];
         os::fail(what);
         input::replay(-1, what);
     } else {
-        open(&path[0..n]);
+        let name = &path[0..n];
+        let fd = os::open_read(name);
+        if fd < 0 {
+            os::fail(name);
+        }
+        input::replay(fd, name);
+        libc::close(fd);
     }
 }
 

@@ -1,8 +1,8 @@
 // Reads what a call takes. A buffer is a length and as many numbers, where `N*V` stands for N numbers V; or a length and a value at once, `LENGTH*V`.
 use crate::choice::either;
 use crate::choice::either_byte;
-use crate::entry;
 use crate::entry::TABLE;
+use crate::out::find;
 use crate::token::EXTRA;
 use crate::token::MISSING;
 use crate::token::NOTHING;
@@ -82,9 +82,10 @@ fn below(kind: u8) -> usize {
     }
 }
 
-// A number of a kind.
+// A number of a kind. RUN is the kind of a number before a star that is out of range.
 fn ranged(t: Token, kind: u8, times: usize) -> Found {
-    let fits = (t.negative & (t.size < below(kind))) | (!t.negative & (t.size <= most(kind)));
+    let fits = (t.negative & (t.size < below(kind)))
+        | (!t.negative & (t.size <= most(kind)) & (kind != RUN));
     let fault = either_byte(fits | (t.fault != NOTHING), t.fault, OUT_OF_RANGE);
     let negated = std::num::wrapping_sub_usize(0, t.size);
     Found {
@@ -96,33 +97,19 @@ fn ranged(t: Token, kind: u8, times: usize) -> Found {
     }
 }
 
-// What was found, or that the number before a star is out of range.
-fn unless(bad: bool, at: usize, r: Found) -> Found {
-    if bad {
-        return Found {
-            value: 0,
-            times: 1,
-            at,
-            fault: OUT_OF_RANGE,
-            kind: RUN,
-        };
-    }
-    r
-}
-
 // A buffer's length. Of `LENGTH*V` reading goes on at LENGTH, which is then its only item.
 pub(crate) fn length_at(line: &[u8], at: usize) -> Found {
     let t = token_at(line, at);
-    let r = ranged(t, LENGTH, 1);
-    let star = t.star & (r.fault == NOTHING);
-    let length = Found {
+    let star = t.star & (t.fault == NOTHING);
+    let none = star & !t.negative & (t.size == 0);
+    let r = ranged(t, either_byte(none, RUN, LENGTH), 1);
+    Found {
         value: r.value,
         times: 1,
         at: either(star, t.from, r.at),
         fault: r.fault,
-        kind: LENGTH,
-    };
-    unless(star & (r.value == 0), t.from, length)
+        kind: r.kind,
+    }
 }
 
 // An item of a buffer of which `left` numbers are left: V, or N*V.
@@ -131,8 +118,8 @@ fn item_at(line: &[u8], at: usize, kind: u8, left: usize) -> Found {
     let star = t.star & (t.fault == NOTHING);
     let bad = star & (t.negative | (t.size == 0) | (left < t.size));
     let behind = std::num::wrapping_add_usize(t.next, 1);
-    let v = token_at(line, either(star, behind, at));
-    unless(bad, t.from, ranged(v, kind, either(star, t.size, 1)))
+    let v = token_at(line, either(star & !bad, behind, at));
+    ranged(v, either_byte(bad, RUN, kind), either(star, t.size, 1))
 }
 
 // The next number of a buffer: one that is being repeated, or the next item.
@@ -263,21 +250,17 @@ fn parts(line: &[u8], table: &[u8], row: usize, call: Call) -> Call {
     c
 }
 
-// The call whose row the table has behind `at`, of which the first word is read; or none.
-fn begun(at: usize, tag: u8, from: usize, next: usize) -> Call {
-    if at < 1067 {
-        bare(tag, next, NOTHING)
-    } else {
-        bare(NONE, from, UNKNOWN)
-    }
-}
-
 // What stands in the line, whose first word starts at `from`.
 pub(crate) fn read(line: &[u8], from: usize) -> Call {
     let table = TABLE;
     let t = &table[..];
-    let at = entry::find(t, line, from);
-    let tag = byte_at(t, std::num::wrapping_add_usize(at, 1));
-    let c = begun(at, tag, from, seek(line, from, true));
-    parts(line, t, std::num::wrapping_add_usize(at, 3), c)
+    let at = find(t, line, from);
+    let tag = byte_at(t, std::num::wrapping_add_usize(at, 31));
+    let known = tag != NONE;
+    let c = bare(
+        tag,
+        either(known, seek(line, from, true), from),
+        either_byte(known, NOTHING, UNKNOWN),
+    );
+    parts(line, t, std::num::wrapping_add_usize(at, 14), c)
 }

@@ -32,7 +32,7 @@ pub(crate) fn short(v: usize) -> i16 {
     integers::clip16(wide(v))
 }
 
-fn least(a: usize, b: usize) -> usize
+pub(crate) fn least(a: usize, b: usize) -> usize
     ensures { λ r. ⌜ r ≤ b ⌝ }
 {
     if a <= b { a } else { b }

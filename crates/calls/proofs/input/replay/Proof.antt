@@ -24,11 +24,11 @@ loop-less c = search needs
 loop-again : tie.Need-loop-again Inv-loop μ-loop
 loop-again c = search needs
 
-rest-requires : tie.Need-rest-requires Inv-loop μ-loop
-rest-requires c κs = search needs
-
 returns : tie.Need-returns Inv-loop μ-loop
 returns c = search needs
+
+returns-2 : tie.Need-returns-2 Inv-loop μ-loop
+returns-2 c = search needs
 
 pub replay-spec : {M : Type 1} → statement M
 replay-spec =
@@ -41,5 +41,5 @@ replay-spec =
     sub-turns
     loop-less
     loop-again
-    rest-requires
-    returns)
+    returns
+    returns-2)

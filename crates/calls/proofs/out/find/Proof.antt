@@ -1,20 +1,21 @@
--- `calls::entry::find` is safe and ends: what is left of the table is the measure. Assumes nothing.
+-- `calls::out::find` is safe and ends: what is left of the text is the measure. Assumes nothing.
 use borrow.Author.Needs.{needs}
 use Prim.Native.Nat.{_-_}
-use Rattle.calls.proofs.entry.find.Statement.{statement}
-use Rattle.calls.proofs.entry.find.Tie as tie
+use lib.ListN.{length}
+use Rattle.calls.proofs.out.find.Statement.{statement}
+use Rattle.calls.proofs.out.find.Tie as tie
 
 abbrev Inv-loop : tie.InvT-loop
-Inv-loop table line from i₀ i = Unit {0}
+Inv-loop s key from i₀ i = Unit {0}
 
 abbrev μ-loop : tie.MeasureT-loop
-μ-loop table line from i₀ i = 1067 - i
+μ-loop s key from i₀ i = length s - i
 
 loop-holds : tie.Need-loop-holds Inv-loop μ-loop
 loop-holds c = search needs
 
-starts-requires : tie.Need-starts-requires Inv-loop μ-loop
-starts-requires c κs = search needs
+named-requires : tie.Need-named-requires Inv-loop μ-loop
+named-requires c κs = search needs
 
 add-i : tie.Need-add-i Inv-loop μ-loop
 add-i c = search needs
@@ -38,7 +39,7 @@ find-spec =
     Inv-loop
     μ-loop
     loop-holds
-    starts-requires
+    named-requires
     add-i
     loop-less
     loop-again
