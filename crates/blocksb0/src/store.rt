@@ -7,7 +7,7 @@ ghost use Rattle.halving.specs.Lines.{Next};
 
 // The line of lane j, of n places, to place `a` of the output.
 pub(crate) fn store_line(e: &[i32], dst: &mut [i32], n: usize, a: usize, j: usize)
-    requires { ⌜ (n * 16 ≤ length (now e)) × ((j < 16) × (a + n ≤ length (now dst))) ⌝ }
+    requires { ⌜ ((16 ≤ n) × (n * 16 ≤ length (now e))) × ((j < 16) × (a + n ≤ length (now dst))) ⌝ }
     ensures { λ _. ⌜ Next (now (dst .entry)) (now (dst .exit)) a n (λ k. clip32 (getD (now (e .entry)) (k * 16 + j) (pos 0))) ⌝ }
 {
     for k in 0..n {

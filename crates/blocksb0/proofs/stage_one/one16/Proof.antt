@@ -49,7 +49,7 @@ mul-store-line c = omega (arith, c .before .before .before .before .before .befo
 store-line-requires : tie.Need-store-line-requires Inv-loop μ-loop
 store-line-requires c κs =
     let t = c .before .before .loop-test .taken in
-    (omega (arith, long _ (c .before .before .before .before .sums16 .ensures)), (t, omega (arith, c .before .before .before .loop .inv .1 .long, t, c .before .before .before .before .before .before .before .before .before .pre .dst-room)))
+    ((omega arith, omega (arith, long _ (c .before .before .before .before .sums16 .ensures))), (t, omega (arith, c .before .before .before .loop .inv .1 .long, t, c .before .before .before .before .before .before .before .before .before .pre .dst-room)))
 
 add-j : tie.Need-add-j Inv-loop μ-loop
 add-j c = omega (arith, c .before .before .before .before .loop-test .taken)

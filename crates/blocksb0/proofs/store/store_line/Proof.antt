@@ -26,16 +26,16 @@ loop-holds : tie.Need-loop-holds Inv-loop μ-loop
 loop-holds c = (omega arith, next-none)
 
 mul-clip32 : tie.Need-mul-clip32 Inv-loop μ-loop
-mul-clip32 c = omega (arith, c .before .before .pre .0, c .before .before .pre .1 .0, c .loop-test .taken)
+mul-clip32 c = omega (arith, c .before .before .pre .0 .0, c .before .before .pre .0 .1, c .before .before .pre .1 .0, c .loop-test .taken)
 
 add-clip32 : tie.Need-add-clip32 Inv-loop μ-loop
-add-clip32 c = omega (arith, c .before .before .pre .0, c .before .before .pre .1 .0, c .loop-test .taken)
+add-clip32 c = omega (arith, c .before .before .pre .0 .0, c .before .before .pre .0 .1, c .before .before .pre .1 .0, c .loop-test .taken)
 
 mul-clip32-2 : tie.Need-mul-clip32-2 Inv-loop μ-loop
-mul-clip32-2 c = omega (arith, c .before .before .pre .0, c .before .before .pre .1 .0, c .loop-test .taken)
+mul-clip32-2 c = omega (arith, c .before .before .pre .0 .0, c .before .before .pre .0 .1, c .before .before .pre .1 .0, c .loop-test .taken)
 
 shared-slice-copy-out-clip32 : tie.Need-shared-slice-copy-out-clip32 Inv-loop μ-loop
-shared-slice-copy-out-clip32 c = omega (arith, c .before .before .pre .0, c .before .before .pre .1 .0, c .loop-test .taken)
+shared-slice-copy-out-clip32 c = omega (arith, c .before .before .pre .0 .0, c .before .before .pre .0 .1, c .before .before .pre .1 .0, c .loop-test .taken)
 
 cast-clip32 : tie.Need-cast-clip32 Inv-loop μ-loop
 cast-clip32 c =

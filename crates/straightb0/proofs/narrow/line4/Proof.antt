@@ -83,6 +83,10 @@ module _ (c : tie.After-term4) where
   abbrev high : ℕ → Ex → Ex
   high n f = sub (var n) (loc w32 f)
 
+  -- a difference fits whichever half is taken from the other: which it is, is the result's business
+  abbrev turned : ℕ → Ex → Ex
+  turned n f = sub (loc w32 f) (var n)
+
   abbrev out : List ℤ
   out = map (raw (machines known)) (loc w32 (low 0 a) ∷ loc w32 (low 1 b) ∷ loc w32 (high 1 b) ∷ loc w32 (high 0 a) ∷ [])
 
@@ -136,10 +140,10 @@ add-t15 : tie.Need-add-t15
 add-t15 c = let d = c .before .before in fit (known d) w32 (low d 1 (b d)) tt
 
 sub-t20 : tie.Need-sub-t20
-sub-t20 c = let d = c .before .before in fit (known d) w32 (high d 1 (b d)) tt
+sub-t20 c = let d = c .before .before in search (fit (known d) w32 (high d 1 (b d)) tt, fit (known d) w32 (turned d 1 (b d)) tt)
 
 sub-t21 : tie.Need-sub-t21
-sub-t21 c = let d = c .before .before in fit (known d) w32 (high d 0 (a d)) tt
+sub-t21 c = let d = c .before .before in search (fit (known d) w32 (high d 0 (a d)) tt, fit (known d) w32 (turned d 0 (a d)) tt)
 
 returns : tie.Need-returns
 returns c =
