@@ -25,7 +25,8 @@ pub fn evc_dquant(
         return Answer::Refused(Refusal::Shift);
     }
     let n = 1usize << (log2_w + log2_h);
-    if coef.len() < n {
+    let len = coef.len();
+    if len < n {
         return Answer::Refused(Refusal::Area);
     }
     crate::area::each(&mut coef[..n], scale, offset, shift);

@@ -88,7 +88,7 @@ part-part-start : tie.Need-part-part-start
 part-part-start c = search needs
 
 part-part-end : tie.Need-part-part-end
-part-part-end c = inside c
+part-part-end c = omega (arith, inside c)
 
 evc-dquant-requires : tie.Need-evc-dquant-requires
 evc-dquant-requires c κs = search needs

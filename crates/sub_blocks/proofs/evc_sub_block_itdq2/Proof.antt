@@ -2,9 +2,9 @@
 use mathlib.Core.Path.{sym, _∙_}
 use lib.ListN.{length}
 use Rattle.evc.specs.declared.SubBlock.{SubBlock}
-use Rattle.evc.proofs.SubBlocks.{AllPassed, all-passed, luma-accepted, chroma-accepted, sub-refused}
+use Rattle.evc.proofs.SubBlocks.{AllPassed, all-passed, luma-accepted, sub-refused}
 use Rattle.components.proofs.Matches.{sub-done, sub-not-done}
-use Rattle.sub_blocks.proofs.SubBlocks.{sub-left}
+use Rattle.sub_blocks.proofs.SubBlocks.{chroma-passed, sub-left}
 use borrow.Author.Needs.{needs}
 use Rattle.sub_blocks.proofs.evc_sub_block_itdq2.Statement.{statement}
 use Rattle.sub_blocks.proofs.evc_sub_block_itdq2.Tie as tie
@@ -36,7 +36,7 @@ chroma-job-requires c κs = search needs
 component-requires-2 : tie.Need-component-requires-2
 component-requires-2 c κs t =
     let k = c .before .before .before .before .before .before in
-    rw (c .chroma-job .ensures, c .before .before .coef .given) (chroma-accepted _ (call k) (call k .u) (passed k .u t))
+    search (chroma-passed (call k) (call k .u) (passed k .u) (c .chroma-job .ensures) (c .before .before .coef .given))
 
 chroma-job-requires-2 : tie.Need-chroma-job-requires-2
 chroma-job-requires-2 c κs = search needs
@@ -44,7 +44,7 @@ chroma-job-requires-2 c κs = search needs
 component-requires-3 : tie.Need-component-requires-3
 component-requires-3 c κs t =
     let k = c .before .before .before .before .before .before .before .before .before .before in
-    rw (c .chroma-job2 .ensures, c .before .before .coef2 .given, c .before .before .before .before .before .before .coef .given) (chroma-accepted _ (call k) (call k .v) (passed k .v t))
+    search (chroma-passed (call k) (call k .v) (passed k .v) (c .chroma-job2 .ensures) (c .before .before .coef2 .given ∙ c .before .before .before .before .before .before .coef .given))
 
 enum-told-2 : tie.Need-enum-told-2
 enum-told-2 c = search needs

@@ -3,11 +3,12 @@ use borrow.Author.Needs.{needs}
 use borrow.Author.Tests.{ltb-false, lt-ltb, le-ltb}
 use mathlib.Core.Path.{_≡_, refl, sym}
 use mathlib.Core.Bool.{Bool, true, false, _||_}
-use Prim.Native.Nat.{_+_, _*_, _^_, _%_, _≤_}
+use Prim.Native.Nat.{ℕ, _+_, _*_, _^_, _%_, _≤_}
 use native.Mathlib.Omega.{arith}
-use mathlib.Core.List.{List, [], _∷_}
+use mathlib.Core.List.{List, [], _∷_, _++_, map}
 use lib.Dec.{ltb}
-use lib.ListN.{length}
+use lib.IntN.{ℤ}
+use lib.ListN.{length, take, drop}
 use lib.Seq.{length-take-le}
 use mir.Syntax.{w64}
 use mir.Facts.{toZ-ofZ}
@@ -81,6 +82,10 @@ each-requires c κs = search needs
 same-length : tie.Need-same-length
 same-length c = search needs
 
+-- the area's part is mapped, and the area has n samples
+first-mapped : (f : ℤ → ℤ) (l e : List ℤ) (n area : ℕ) → n ≡ area → e ≡ map f (take n l) → e ++ drop n l ≡ map f (take area l) ++ drop area l
+first-mapped f l e n area p q = rw (q, p)
+
 returns-4 : tie.Need-returns-4
 unfolding dquantNumber dquantExit
 returns-4 c =
@@ -90,7 +95,7 @@ returns-4 c =
     let o = start b .fits .offset in
     let h = rw (samples b) at (c .before .before .before .if3 .left) in
     accepted-end (tests (start b)) _ _ _ (p .0, (p .1, (le-ltb 31 _ (b .if2 .left), (le-ltb _ _ h, tt))))
-    (rw (samples b, simp toZ-ofZ at (rw (samples b) at (c .before .each .ensures))))
+    (first-mapped _ _ _ _ _ (samples b) (simp toZ-ofZ at (c .before .each .ensures)))
 
 pub evc-dquant-spec : {M : Type 1} → statement M
 evc-dquant-spec =
