@@ -16,8 +16,7 @@ use Rattle.evc.specs.declared.Component.{Component}
 use Rattle.evc.specs.Answers.{SubReply, refusedAt}
 use Rattle.evc.specs.Tests.{first, samplesOf}
 use Rattle.evc.specs.Jobs.{area}
-use Rattle.evc.specs.SubBlocks.{isSome, overlap}
-use Rattle.evc.proofs.SubBlocks.{orElse}
+use Rattle.evc.specs.SubBlocks.{isSome, overlap, orElse}
 use Rattle.refusals.proofs.Areas.{area-run}
 
 some-or-none : (l : List ℕ) → (l ≡ [] → ⊥) → isSome l ≡ true

@@ -15,10 +15,10 @@ use Rattle.evc.specs.declared.Refusal.{Refusal}
 use Rattle.evc.specs.Answers.{number, SubReply, accepted, refusedAt}
 use Rattle.evc.specs.Tests.{first, outside}
 use Rattle.evc.specs.Jobs.{jobNumber}
-use Rattle.evc.specs.SubBlocks.{luma, chroma, lumaTests, chromaTests, overlap, subReply}
+use Rattle.evc.specs.SubBlocks.{luma, chroma, lumaTests, chromaTests, overlap, subReply, orElse}
 use Rattle.evc.proofs.Tests.{number-some}
 use Rattle.evc.proofs.Jobs as Jobs
-use Rattle.evc.proofs.SubBlocks.{orElse, sub-by-component}
+use Rattle.evc.proofs.SubBlocks.{sub-by-component}
 use Rattle.components.specs.Ranges.{Sides}
 
 -- ---- the component's tests are those of its job

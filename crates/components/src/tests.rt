@@ -3,8 +3,7 @@
 ghost use mathlib.Core.Path.{_≡_};
 ghost use Rattle.evc.specs.Answers.{subReading};
 ghost use Rattle.evc.specs.Jobs.{jobNumber};
-ghost use Rattle.evc.specs.SubBlocks.{subReply};
-ghost use Rattle.evc.proofs.SubBlocks.{orElse};
+ghost use Rattle.evc.specs.SubBlocks.{subReply, orElse};
 use crate::jobs::chroma_job;
 use crate::jobs::luma_job;
 use crate::pairs::pairs;

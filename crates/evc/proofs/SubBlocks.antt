@@ -20,17 +20,12 @@ use Rattle.evc.specs.declared.Component.the-variants.{Y, U, «V»}
 use Rattle.evc.specs.Answers.{number, SubReply, accepted, refusedAt}
 use Rattle.evc.specs.Tests.{Test, first}
 use Rattle.evc.specs.Jobs.{area, jobNumber, blockJobs}
-use Rattle.evc.specs.SubBlocks.{Named, named, firstNamed, luma, chroma, lumaTests, chromaTests, isSome, overlap, given, flagged, subReply, subExit}
+use Rattle.evc.specs.SubBlocks.{Named, named, firstNamed, orElse, luma, chroma, lumaTests, chromaTests, isSome, overlap, given, flagged, subReply, subExit}
 use Rattle.evc.proofs.Tests.{number-some, unbroken}
 use Rattle.evc.proofs.Jobs.{accept, accepted-as, lawful}
 
 -- ---- a sub-block's answer goes component by component: the first of Y, U, V that is flagged and has a broken test, with the lowest
 -- number of its own; where none has, the first flagged pair of YU, YV, UV that shares a sample, naming the later
-abbrev pub orElse : Bool → Component → ℕ → SubReply → SubReply
-orElse false c n rest = rest
-orElse true c zero rest = rest
-orElse true c (suc n) rest = refusedAt c (suc n)
-
 named-first : (on : Bool) (c : Component) (ts : List Test) (rest : List Named)
     → firstNamed (given on (named c ts) ++ rest) ≡ orElse on c (first ts) (firstNamed rest)
 named-first false c ts rest = refl

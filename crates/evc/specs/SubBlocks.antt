@@ -86,6 +86,12 @@ firstNamed (t ∷ ts) = cond (t .test .broken) (refusedAt (t .who) (number (t .t
 unfoldable pub subReply : ℕ → SubBlock → SubReply
 subReply n s = firstNamed (subTests n s)
 
+-- one step of the same, for functions that test one component: a flagged component's refusal n, unless that is 0, comes before the rest's answer
+abbrev pub orElse : Bool → Component → ℕ → SubReply → SubReply
+orElse false c n rest = rest
+orElse true c zero rest = rest
+orElse true c (suc n) rest = refusedAt c (suc n)
+
 -- ---- the jobs of the flagged components, and the buffer at the end: an accepted call does them, a refused one nothing
 abbrev pub flagged : SubBlock → List Job
 flagged s = given (s .y .flag) (luma s (s .y) ∷ []) ++ (given (s .u .flag) (chroma s (s .u) ∷ []) ++ given (s .v .flag) (chroma s (s .v) ∷ []))
