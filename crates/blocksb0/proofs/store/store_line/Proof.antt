@@ -40,7 +40,7 @@ shared-slice-copy-out-clip32 c = omega (arith, c .before .before .pre .0 .0, c .
 cast-clip32 : tie.Need-cast-clip32 Inv-loop μ-loop
 cast-clip32 c =
     let s = c .before .before .before in
-    fit (env (arg w32 (getD (s .args .e .now) (c .before .before .loop .k * 16 + s .args .j) (pos 0)) (sfits-of (c .clip32-arg .given)) ∷ [])) w64 (var 0) tt
+    fit (env (arg w32 (getD (s .args .e .now) _ (pos 0)) (sfits-of (c .clip32-arg .given)) ∷ [])) w64 (var 0) tt
 
 clip32-requires : tie.Need-clip32-requires Inv-loop μ-loop
 clip32-requires c κs = tt
@@ -64,10 +64,10 @@ loop-again : tie.Need-loop-again Inv-loop μ-loop
 loop-again c =
     let s = c .before .before .before .before in
     let l = c .before .before .before .loop in
-    let fe : SFits w32 (getD (s .args .e .now) (l .k * 16 + s .args .j) (pos 0)) = sfits-of (c .before .clip32-arg .given) in (
+    let fe : SFits w32 (getD (s .args .e .now) _ (pos 0)) = sfits-of (c .before .clip32-arg .given) in (
       omega (arith, c .before .before .loop-test .taken),
       next-more (toZ w32 (ofZ w32 (c .clip32 .result))) (l .inv .1)
-          (toZ-ofZ (sfits-of (c .clip32 .ok)) ∙ c .clip32 .ensures ∙ ap clip32 (reads (env (arg w32 (getD (s .args .e .now) (l .k * 16 + s .args .j) (pos 0)) fe ∷ [])) (loc w64 (var 0)) tt)),
+          (toZ-ofZ (sfits-of (c .clip32 .ok)) ∙ c .clip32 .ensures ∙ ap clip32 (reads (env (arg w32 (getD (s .args .e .now) _ (pos 0)) fe ∷ [])) (loc w64 (var 0)) tt)),
     )
 
 same-length : tie.Need-same-length Inv-loop μ-loop
