@@ -10,6 +10,7 @@ pub mod Lines
 pub mod Instance
 -- a line by straight code, and stored
 pub mod Straight
+pub mod Small
 pub mod Rows
 -- 16 lines at a time: a block gathered, runs of the output (places, lines, blocks), what a block's sums are
 pub mod Gathered

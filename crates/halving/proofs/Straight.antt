@@ -80,6 +80,10 @@ module _ (B C : ℕ) (t : List ℤ) (w : ℕ) (x : List ℤ) (l j m : ℕ) (e r 
           (λ n h. (high n h ∙ high-sum n h, rw (high n h) (within-sub {x = getD e n (pos 0)} {y = o n} (record { bound = even .small n h }) (record { bound = odds n h .small }) .bound)))
 
 -- ---- where the code reads
+-- column n of row k, and input k
+pub there : {t : List ℤ} {w : ℕ} {x : List ℤ} {l j N : ℕ} → Reach t w x l j N → (k n : ℕ) → k < N → n < N → (k * w + n < length t) × (k * l + j < length x)
+there g k n h i = (g .table k n h i, g .input k h)
+
 pub half-reach : {t : List ℤ} {w : ℕ} {x : List ℤ} {l j : ℕ} (m : ℕ) → Reach t w x l j (m + m) → Reach t (w + w) x (l + l) j m
 half-reach {w = w} {l = l} m g = record {
   table = λ k n hk hn. rw (mul-add k w w, ← add-mul k k w) (g .table (k + k) n (omega arith) (omega arith));
