@@ -1,5 +1,5 @@
 -- What an accepted job lends of its buffer, to the dequantizer and then to both stages, and what it leaves. Assumes nothing.
-use Prim.Native.Nat.{ℕ, _+_, _-_, _≤_}
+use Prim.Native.Nat.{ℕ, _+_, _*_, _-_, _^_, _%_, _≤_}
 use native.Mathlib.Nat.{add-sub-cancel-left}
 use native.Mathlib.Omega.{arith}
 use mathlib.Core.Path.{_≡_, sym, ap, _∙_}
@@ -7,6 +7,8 @@ use mathlib.Core.List.{List, _++_, map}
 use lib.ListN.{length, take, drop, length-drop, length-map}
 use lib.Seq.{length-take-le}
 use lib.IntN.{ℤ, pos}
+use mir.Syntax.{w64}
+use Rattle.integers.proofs.Bits.{one-shl}
 use Rattle.order.proofs.Rows.{change-row}
 use Rattle.evc.specs.declared.Job.{Job}
 use Rattle.evc.specs.Tests.{samplesOf}
@@ -19,7 +21,7 @@ use Rattle.both.specs.Both.{bothExit}
 use Rattle.both.specs.Blocks.{Block, bothStages}
 use Rattle.both.proofs.Blocks.{both-block}
 
--- ---- n is the size of the job's area as the code has it, and what the job lends of the buffer b is exactly the area
+-- ---- what the job lends of the buffer b is exactly its area, of n samples
 module _ (b : List ℤ) (j : Job) (z : jobNumber (length b) j ≡ 0) (n : ℕ) (e : n ≡ samplesOf (j .logw) (j .logh)) where
   -- the part's length as the code writes it, from the start and the end
   abbrev k : ℕ
@@ -31,11 +33,11 @@ module _ (b : List ℤ) (j : Job) (z : jobNumber (length b) j ≡ 0) (n : ℕ) (
   abbrev part : List ℤ
   part = take k (drop (j .start) b)
 
-  pub area-inside : j .start + n ≤ length b
-  area-inside = rw (sym (end-of j n e)) (accepted (length b) j z .fits)
+  inside-at : j .start + n ≤ length b
+  inside-at = rw (sym (end-of j n e)) (accepted (length b) j z .fits)
 
   part-long : length part ≡ k
-  part-long = length-take-le k (drop (j .start) b) (rw length-drop (omega (arith, area-inside)))
+  part-long = length-take-le k (drop (j .start) b) (rw length-drop (omega (arith, inside-at)))
 
   -- y is what the dequantizer leaves of the part
   module _ (y : List ℤ) (by off : ℤ) (eb : by ≡ scale (j .qp)) (eo : off ≡ j .offset) (ey : y ≡ dquantExit (j .logw) (j .logh) by off (j .dqshift) part) where
@@ -59,9 +61,30 @@ module _ (b : List ℤ) (j : Job) (z : jobNumber (length b) j ≡ 0) (n : ℕ) (
         }
 
     -- and the buffer at the end, with x as both stages leave it in place of the part
-    pub lent-done : (x : List ℤ) → x ≡ bothExit (j .logw) (j .logh) (j .itshift) y → take (j .start) b ++ (x ++ drop k (drop (j .start) b)) ≡ jobExit j b
+    done-at : (x : List ℤ) → x ≡ bothExit (j .logw) (j .logh) (j .itshift) y → take (j .start) b ++ (x ++ drop k (drop (j .start) b)) ≡ jobExit j b
     unfolding jobExit block bothStages
-    lent-done x e′ =
+    done-at x e′ =
         let h : x ≡ bothStages (j .logw) (j .logh) (j .itshift) y = e′ ∙ both-block (j .logw) (j .logh) (j .itshift) y lent-block in
         rw (z, h, y-is, lent-size, area-run j, ← e)
-        (sym (change-row (pos 0) (block j) (length-block j) b (j .start) n area-inside))
+        (sym (change-row (pos 0) (block j) (length-block j) b (j .start) n inside-at))
+
+-- ---- the same, with the size as the code computes it
+abbrev pub size : Job → ℕ
+size j = (1 * 2 ^ (j .logw + j .logh)) % 2 ^ 64
+
+module _ (b : List ℤ) (j : Job) (z : jobNumber (length b) j ≡ 0) where
+  pub logs-sum : j .logw + j .logh ≤ 12
+  logs-sum = let a = accepted (length b) j z in omega arith
+
+  sized : size j ≡ samplesOf (j .logw) (j .logh)
+  sized = one-shl w64 (j .logw + j .logh) (omega (arith, logs-sum))
+
+  pub area-inside : j .start + size j ≤ length b
+  area-inside = inside-at b j z (size j) sized
+
+  -- y is what the dequantizer leaves of the part that is lent, and x what both stages leave of that
+  pub lent-done : (y : List ℤ) (by off : ℤ) → by ≡ scale (j .qp) → off ≡ j .offset
+      → y ≡ dquantExit (j .logw) (j .logh) by off (j .dqshift) (take (j .start + size j - j .start) (drop (j .start) b))
+      → (x : List ℤ) → x ≡ bothExit (j .logw) (j .logh) (j .itshift) y
+      → take (j .start) b ++ (x ++ drop (j .start + size j - j .start) (drop (j .start) b)) ≡ jobExit j b
+  lent-done y by off eb eo ey x ex = done-at b j z (size j) sized y by off eb eo ey x ex

@@ -2,19 +2,17 @@
 -- stages. Assumes nothing.
 use mathlib.Core.Path.{_≡_, sym, _∙_}
 use native.Mathlib.Omega.{arith}
-use Prim.Native.Nat.{ℕ, _+_, _*_, _^_, _%_, _≤_}
+use Prim.Native.Nat.{_+_, _≤_}
 use lib.ListN.{length}
-use mir.Syntax.{w32, w64}
+use mir.Syntax.{w32}
 use mir.Val.{toZ, ofZ}
-use Rattle.integers.proofs.Bits.{one-shl}
-use Rattle.evc.specs.Tests.{samplesOf}
 use Rattle.evc.specs.Dequantizer.{scale}
 use Rattle.evc.specs.Jobs.{jobNumber}
 use Rattle.evc.proofs.Jobs.{accepted}
 use Rattle.evc.proofs.AnyOrder.{refused-unchanged}
 use Rattle.refusals.proofs.Matches.{is-done, not-done}
 use Rattle.scaling.proofs.Scales.{scale-known}
-use Rattle.both.proofs.Areas.{area-inside, lent-done}
+use Rattle.both.proofs.Areas.{logs-sum, size, area-inside, lent-done}
 use borrow.Author.Needs.{needs}
 use Rattle.itdq.proofs.evc_itdq_job.Statement.{statement}
 use Rattle.itdq.proofs.evc_itdq_job.Tie as tie
@@ -45,17 +43,10 @@ module _ (c : tie.After-struct-known) where
   passed = let t = c .before .before .before .before .job in sym (t .ensures) ∙ is-done (t .result) (c .before .before .before .match .keys2)
 
   sum : start .args .job .logw + start .args .job .logh ≤ 12
-  sum = let a = accepted _ _ passed in omega arith
+  sum = logs-sum (start .args .coef .now) (start .args .job) passed
 
-  -- the size of the area, as the code computes it
-  abbrev size : ℕ
-  size = (1 * 2 ^ (start .args .job .logw + start .args .job .logh)) % 2 ^ 64
-
-  sized : size ≡ samplesOf (start .args .job .logw) (start .args .job .logh)
-  sized = one-shl w64 (start .args .job .logw + start .args .job .logh) (omega (arith, sum))
-
-  inside : start .args .job .start + size ≤ length (start .args .coef .now)
-  inside = area-inside (start .args .coef .now) (start .args .job) passed size sized
+  inside : start .args .job .start + size (start .args .job) ≤ length (start .args .coef .now)
+  inside = area-inside (start .args .coef .now) (start .args .job) passed
 
   by : toZ w32 (ofZ w32 (c .before .scale-of .result)) ≡ scale (start .args .job .qp)
   by =
@@ -107,7 +98,7 @@ returns-2 : tie.Need-returns-2
 returns-2 c =
     let k = known (c .before .before) in (
       sym (passed k),
-      lent-done (start k .args .coef .now) (start k .args .job) (passed k) (size k) (sized k) _ _ _ (by k) (off k) (c .before .before .before .evc-dquant .ensures .1) _ (c .before .both-stages .ensures),
+      lent-done (start k .args .coef .now) (start k .args .job) (passed k) _ _ _ (by k) (off k) (c .before .before .before .evc-dquant .ensures .1) _ (c .before .both-stages .ensures),
     )
 
 pub evc-itdq-job-spec : {M : Type 1} → statement M

@@ -1,17 +1,15 @@
 -- `sub_blocks::component` meets its contract, as `evc_itdq_job` does from where its tests have passed. Assumes nothing.
 use mathlib.Core.Path.{_≡_, _∙_}
 use native.Mathlib.Omega.{arith}
-use Prim.Native.Nat.{ℕ, _+_, _*_, _^_, _%_, _≤_}
+use Prim.Native.Nat.{_+_, _≤_}
 use lib.ListN.{length}
-use mir.Syntax.{w32, w64}
+use mir.Syntax.{w32}
 use mir.Val.{toZ, ofZ}
-use Rattle.integers.proofs.Bits.{one-shl}
-use Rattle.evc.specs.Tests.{samplesOf}
 use Rattle.evc.specs.Dequantizer.{scale}
 use Rattle.evc.specs.Jobs.{jobNumber}
 use Rattle.evc.proofs.Jobs.{accepted}
 use Rattle.scaling.proofs.Scales.{scale-known}
-use Rattle.both.proofs.Areas.{area-inside, lent-done}
+use Rattle.both.proofs.Areas.{logs-sum, size, area-inside, lent-done}
 use Rattle.sub_blocks.proofs.SubBlocks.{flagged-job}
 use borrow.Author.Needs.{needs}
 use Rattle.sub_blocks.proofs.component.Statement.{statement}
@@ -26,17 +24,10 @@ module _ (c : tie.After-struct-known) where
   passed = start .pre (c .before .before .if1 .taken)
 
   sum : start .args .job .logw + start .args .job .logh ≤ 12
-  sum = let a = accepted _ _ passed in omega arith
+  sum = logs-sum (start .args .coef .now) (start .args .job) passed
 
-  -- the size of the area, as the code computes it
-  abbrev size : ℕ
-  size = (1 * 2 ^ (start .args .job .logw + start .args .job .logh)) % 2 ^ 64
-
-  sized : size ≡ samplesOf (start .args .job .logw) (start .args .job .logh)
-  sized = one-shl w64 (start .args .job .logw + start .args .job .logh) (omega (arith, sum))
-
-  inside : start .args .job .start + size ≤ length (start .args .coef .now)
-  inside = area-inside (start .args .coef .now) (start .args .job) passed size sized
+  inside : start .args .job .start + size (start .args .job) ≤ length (start .args .coef .now)
+  inside = area-inside (start .args .coef .now) (start .args .job) passed
 
   by : toZ w32 (ofZ w32 (c .before .scale-of .result)) ≡ scale (start .args .job .qp)
   by =
@@ -87,7 +78,7 @@ same-length c = search needs
 returns : tie.Need-returns
 returns c =
     let k = known (c .before .before) in
-    lent-done (start k .args .coef .now) (start k .args .job) (passed k) (size k) (sized k) _ _ _ (by k) (off k) (c .before .before .before .evc-dquant .ensures .1) _ (c .before .both-stages .ensures)
+    lent-done (start k .args .coef .now) (start k .args .job) (passed k) _ _ _ (by k) (off k) (c .before .before .before .evc-dquant .ensures .1) _ (c .before .both-stages .ensures)
     ∙ flagged-job _ _ _ (k .before .before .if1 .taken)
 
 returns-2 : tie.Need-returns-2
