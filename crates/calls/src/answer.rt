@@ -13,7 +13,7 @@ fn value(v: i64) {
 }
 
 pub(crate) fn call(a: Answer) {
-    words(std::num::wrapping_add_u8(b'0', numbers::answer_number(a)));
+    words(std::num::wrapping_add_u8(b'0', boundary::answer_number(a)));
 }
 
 fn wide_16(v: i16) -> i64 {
@@ -48,7 +48,7 @@ pub(crate) fn squared(a: SquaredDistortion) {
 // A refusal names its component: the letters from A on stand for it among the words, and none for the number that it has where nothing is refused.
 pub(crate) fn sub_block(a: SubAnswer) {
     let mut component = 9;
-    let number = numbers::tell_sub_block(a, &mut component);
+    let number = boundary::tell_sub_block(a, &mut component);
     words(std::num::wrapping_add_u8(b'0', number));
     words(std::num::wrapping_add_u8(b'A', component));
 }

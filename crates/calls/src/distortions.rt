@@ -86,7 +86,7 @@ fn measured(c: Call, bi: &[i16], one: &[u16], two: &[u16]) {
             c.n11,
             byte(c.n12),
         )),
-        b'l' => distortion(bi::evce_sad_bi_16b(
+        b'l' => distortion(sad_bi::evce_sad_bi_16b(
             bi,
             one,
             c.n0,
@@ -110,7 +110,7 @@ fn measured(c: Call, bi: &[i16], one: &[u16], two: &[u16]) {
             two,
             depth,
         )),
-        _ => distortion(bi::evce_sad_bi_16i(bi, one, c.n0, c.n1, byte(c.n2))),
+        _ => distortion(sad_bi::evce_sad_bi_16i(bi, one, c.n0, c.n1, byte(c.n2))),
     }
 }
 

@@ -7,7 +7,7 @@ use crate::values::word;
 use evc::Answer;
 
 fn sub_block(c: Call, coef: &mut [i16]) {
-    let call = records::sub_block(
+    let call = boundary::sub_block(
         c.n0,
         c.n1,
         word(c.n2),
@@ -23,11 +23,11 @@ fn sub_block(c: Call, coef: &mut [i16]) {
         byte(c.n12),
         byte(c.n13),
     );
-    answer::sub_block(sub_blocks::evc_sub_block_itdq2(coef, call));
+    answer::sub_block(sub_block::evc_sub_block_itdq2(coef, call));
 }
 
 fn job(c: Call, coef: &mut [i16]) -> Answer {
-    let job = records::job(
+    let job = boundary::job(
         c.n0,
         c.n1,
         c.n2,
@@ -36,15 +36,15 @@ fn job(c: Call, coef: &mut [i16]) -> Answer {
         byte(c.n5),
         byte(c.n6),
     );
-    itdq::evc_itdq_job(coef, job)
+    job::evc_itdq_job(coef, job)
 }
 
 fn called(c: Call, shorts: &mut [i16], words: &mut [i32]) -> Answer {
     let tag = c.tag;
     match tag {
         b'b' => dquant::evc_dquant(shorts, c.n0, c.n1, word(c.n2), word(c.n3), byte(c.n4)),
-        b'c' => stagesb0::itxb0(shorts, words, c.n0, c.n1),
-        b'd' => stagesb1::itxb1(words, shorts, c.n0, c.n1, byte(c.n2)),
+        b'c' => itx::itxb0(shorts, words, c.n0, c.n1),
+        b'd' => itx::itxb1(words, shorts, c.n0, c.n1, byte(c.n2)),
         _ => job(c, shorts),
     }
 }

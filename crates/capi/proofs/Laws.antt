@@ -2,7 +2,7 @@
 use Prim.Native.Nat.{ℕ}
 use mathlib.Core.Path.{_≡_}
 use Rattle.evc.specs.Answers.{Reply, SubReply}
-use Rattle.numbers.specs.Told.{Told, SubTold}
+use Rattle.boundary.specs.Told.{Told, SubTold}
 
 pub told-as : {A : Type 0} {p q : Reply A} {before after : A} {n : ℕ} → p ≡ q → Told p before after n → Told q before after n
 told-as e t = rw e at t

@@ -7,7 +7,7 @@ use lib.IntN.{ℤ}
 use lib.ListN.{length}
 use Rattle.evc.specs.declared.SubBlock.{SubBlock}
 use Rattle.evc.specs.SubBlocks.{subReply, subExit}
-use Rattle.numbers.specs.Told.{SubTold}
+use Rattle.boundary.specs.Told.{SubTold}
 
 -- n answers a sub-block call on the buffer coef, which ends as coef'
 pub record SubDone (call : SubBlock) (coef coef' : List ℤ) (before after : ℕ) (n : ℕ) : Type 0 where

@@ -3,10 +3,10 @@ ghost use mathlib.Core.Path.{_≡_};
 ghost use lib.ListN.{length};
 ghost use Rattle.evc.specs.Calls.{diff16bNumber, diff16bExit, satd16b, ssd16b, ssd16i, sad16b, sadBi16b, sad16i, sadBi16i};
 ghost use Rattle.evc.specs.Planes.{planeOf};
-ghost use Rattle.numbers.specs.Told.{Told};
-use numbers::answer_number;
-use numbers::tell_distortion;
-use numbers::tell_squared;
+ghost use Rattle.boundary.specs.Told.{Told};
+use boundary::answer_number;
+use boundary::tell_distortion;
+use boundary::tell_squared;
 
 #[no_mangle]
 pub extern "C" fn tv_diff(
@@ -183,7 +183,7 @@ pub extern "C" fn tv_sad_bi_16b(
     ensures { λ r. ⌜ Told (sadBi16b (now (bi .entry)) (planeOf (now (reference .entry)) «ref_width» «ref_height» «ref_stride») «mv_x» «mv_y» w h depth) (now (value .entry)) (now (value .exit)) r ⌝ }
 {
     tell_distortion(
-        bi::evce_sad_bi_16b(
+        sad_bi::evce_sad_bi_16b(
             bi,
             reference,
             ref_width,
@@ -232,5 +232,5 @@ pub extern "C" fn tv_sad_bi_16i(
 ) -> u8
     ensures { λ r. ⌜ Told (sadBi16i (now (bi .entry)) (now (pred .entry)) w h depth) (now (value .entry)) (now (value .exit)) r ⌝ }
 {
-    tell_distortion(bi::evce_sad_bi_16i(bi, pred, w, h, depth), value)
+    tell_distortion(sad_bi::evce_sad_bi_16i(bi, pred, w, h, depth), value)
 }

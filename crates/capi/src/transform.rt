@@ -4,8 +4,8 @@ ghost use lib.ListN.{length};
 ghost use Rattle.evc.specs.Dequantizer.{dquantNumber, dquantExit};
 ghost use Rattle.evc.specs.Stages.{stageOneNumber, stageTwoNumber, itxb0Exit, itxb1Exit};
 ghost use Rattle.evc.specs.Jobs.{jobNumber, jobExit};
-ghost use Rattle.records.specs.Given.{jobOf};
-use numbers::answer_number;
+ghost use Rattle.boundary.specs.Given.{jobOf};
+use boundary::answer_number;
 
 #[no_mangle]
 pub extern "C" fn tv_dquant(
@@ -27,7 +27,7 @@ pub extern "C" fn tv_itxb0(src: &[i16], dst: &mut [i32], log2_size: usize, log2_
     ensures number { λ r. ⌜ r ≡ stageOneNumber (length (now (src .entry))) (length (now (dst .entry))) «log2_size» «log2_line» ⌝ }
     ensures exit { λ r. ⌜ now (dst .exit) ≡ itxb0Exit «log2_size» «log2_line» (now (src .entry)) (now (dst .entry)) ⌝ }
 {
-    answer_number(stagesb0::itxb0(src, dst, log2_size, log2_line))
+    answer_number(itx::itxb0(src, dst, log2_size, log2_line))
 }
 
 #[no_mangle]
@@ -41,7 +41,7 @@ pub extern "C" fn tv_itxb1(
     ensures number { λ r. ⌜ r ≡ stageTwoNumber (length (now (src .entry))) (length (now (dst .entry))) «log2_size» «log2_line» shift ⌝ }
     ensures exit { λ r. ⌜ now (dst .exit) ≡ itxb1Exit «log2_size» «log2_line» shift (now (src .entry)) (now (dst .entry)) ⌝ }
 {
-    answer_number(stagesb1::itxb1(src, dst, log2_size, log2_line, shift))
+    answer_number(itx::itxb1(src, dst, log2_size, log2_line, shift))
 }
 
 #[no_mangle]
@@ -58,6 +58,6 @@ pub extern "C" fn tv_job(
     ensures number { λ r. ⌜ r ≡ jobNumber (length (now (coef .entry))) (jobOf start «log2_w» «log2_h» qp offset «dq_shift» «it_shift») ⌝ }
     ensures exit { λ r. ⌜ now (coef .exit) ≡ jobExit (jobOf start «log2_w» «log2_h» qp offset «dq_shift» «it_shift») (now (coef .entry)) ⌝ }
 {
-    let job = records::job(start, log2_w, log2_h, qp, offset, dq_shift, it_shift);
-    answer_number(itdq::evc_itdq_job(coef, job))
+    let job = boundary::job(start, log2_w, log2_h, qp, offset, dq_shift, it_shift);
+    answer_number(job::evc_itdq_job(coef, job))
 }

@@ -12,13 +12,13 @@ use lib.Pow.{pow-add}
 use Rattle.integers.specs.Lists.{written}
 use Rattle.integers.proofs.Written.{written-ext}
 use Rattle.order.specs.Jobs.{ifAccepted}
-use Rattle.order.proofs.Tests.{neither-left, neither-right}
+use Rattle.integers.proofs.Bools.{neither-left, neither-right}
 use Rattle.evc.specs.declared.Refusal.the-variants.{Area}
 use Rattle.evc.specs.Tests.{Test, _when_, first, outside, logSizes, samplesOf}
 use Rattle.evc.specs.Planes.{Block}
 use Rattle.evc.specs.Differences.{difference, diffAt}
 use Rattle.evc.specs.Calls.{depthTest, areaTests, sampleTests, diffNumber, diffExit}
-use Rattle.planes.proofs.Replies.{Alike, samples-alike, dif-alike, at-size, at-depth}
+use Rattle.plane_tests.proofs.Replies.{Alike, samples-alike, dif-alike, at-size, at-depth}
 use Rattle.diff.specs.Rests.{Differed}
 
 -- h rows of w are the samples of the two logarithms

@@ -11,9 +11,9 @@ use lib.ListN.{length}
 use borrow.Author.Tests.{le-ltb}
 use Rattle.order.specs.Positions.{reach}
 use Rattle.evc.specs.Planes.{Block}
-use Rattle.planes.specs.Areas.{outsidePlane}
-use Rattle.planes.specs.Blocks.{cell, strided, TwoBlocks}
-use Rattle.planes.proofs.Planes.{in-one, in-two}
+use Rattle.plane_tests.specs.Areas.{outsidePlane}
+use Rattle.plane_tests.specs.Blocks.{cell, strided, TwoBlocks}
+use Rattle.plane_tests.proofs.Planes.{in-one, in-two}
 use Rattle.diff.specs.Small.{SmallRow, SmallBlocks}
 use Rattle.diff.specs.Rests.{Differed}
 

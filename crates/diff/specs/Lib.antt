@@ -1,3 +1,3 @@
--- What the contracts of the helpers below src/ cite, beyond document 01's own definitions (evc/specs) and those of planes.
+-- What the contracts of the helpers below src/ cite, beyond document 01's own definitions (evc/specs) and those of plane_tests.
 pub mod Small
 pub mod Rests

@@ -6,7 +6,7 @@ use lib.Bits.{bitOr}
 use lib.IntN.{ℤ, pos, _-ℤ_}
 use lib.ListN.{length, getD}
 use Rattle.integers.specs.Or.{orN}
-use Rattle.planes.specs.Blocks.{TwoBlocks, cell}
+use Rattle.plane_tests.specs.Blocks.{TwoBlocks, cell}
 
 -- w samples from p on lie inside a buffer, and are small
 pub record SmallRow (w : ℕ) (a : List ℕ) (p : ℕ) : Type 0 where
@@ -27,7 +27,7 @@ unfoldable pub apartFrom : List ℕ → ℕ → ℕ → List ℕ → ℕ → ℕ
 apartFrom a s t b s′ t′ j i = pos (cell 0 a s t j i) -ℤ pos (cell 0 b s′ t′ j i)
 
 -- two blocks of w by h whose differences can be written into a buffer of n
-pub record Ready (w h : ℕ) (a : List ℕ) (s t : ℕ) (b : List ℕ) (s′ t′ n : ℕ) : Type 0 where
+pub record Writable (w h : ℕ) (a : List ℕ) (s t : ℕ) (b : List ℕ) (s′ t′ n : ℕ) : Type 0 where
   pub blocks : TwoBlocks w h (length a) s t (length b) s′ t′
   pub small : SmallBlocks w h a s t b s′ t′
   pub room : h * w ≤ n

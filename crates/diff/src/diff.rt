@@ -9,8 +9,8 @@ ghost use Rattle.evc.specs.Answers.{answerNumber};
 ghost use Rattle.evc.specs.Planes.{planeOf};
 ghost use Rattle.evc.specs.Differences.{diffAt};
 ghost use Rattle.evc.specs.Calls.{diff16bNumber, diff16bExit};
-ghost use Rattle.planes.specs.Blocks.{TwoBlocks, strided};
-ghost use Rattle.diff.specs.Small.{Ready, apartFrom};
+ghost use Rattle.plane_tests.specs.Blocks.{TwoBlocks, strided};
+ghost use Rattle.diff.specs.Small.{Writable, apartFrom};
 ghost use Rattle.diff.specs.Rests.{Differed};
 use evc::Answer;
 use evc::Refusal;
@@ -25,7 +25,7 @@ fn diff_rows(
     h: usize,
     out: &mut [i16],
 )
-    requires { ⌜ Ready w h (now a) «a_at» «a_stride» (now b) 0 w (length (now out)) ⌝ }
+    requires { ⌜ Writable w h (now a) «a_at» «a_stride» (now b) 0 w (length (now out)) ⌝ }
     ensures { λ _. ⌜ now (out .exit) ≡ written (h * w) (diffAt w (apartFrom (now (a .entry)) «a_at» «a_stride» (now (b .entry)) 0 w)) (now (out .entry)) ⌝ }
 {
     for j in 0..h {
@@ -118,16 +118,16 @@ pub fn evce_diff_16b(
     ensures answer { λ r. ⌜ answerNumber r ≡ diff16bNumber (length (now (diff .entry))) (planeOf (now (org .entry)) width height stride) x y «log2_w» «log2_h» (now (cur .entry)) depth ⌝ }
     ensures exit { λ r. ⌜ now (diff .exit) ≡ diff16bExit (planeOf (now (org .entry)) width height stride) x y «log2_w» «log2_h» (now (cur .entry)) depth (now (diff .entry)) ⌝ }
 {
-    if planes::logs(log2_w, log2_h) {
+    if plane_tests::bad_logs(log2_w, log2_h) {
         return Answer::Refused(Refusal::Size);
     }
     let w = 1usize << log2_w;
     let h = 1usize << log2_h;
-    if planes::wrong_depth(depth) {
+    if plane_tests::bad_depth(depth) {
         return Answer::Refused(Refusal::Depth);
     }
     let n = h * w;
-    if planes::outside_plane(org.len(), width, height, stride, x, y, w, h)
+    if plane_tests::outside_plane(org.len(), width, height, stride, x, y, w, h)
         | (cur.len() < n)
         | (diff.len() < n)
     {

@@ -21,23 +21,23 @@ length-block j l = tab-length _ _ ∙ tab-length _ _ ∙ length-map l _
 
 -- the numbers are in their ranges, and the area ends inside a buffer of n samples
 pub record Accepted (n : ℕ) (j : Job) : Type 0 where
-  pub w1 : 1 ≤ j .logw
-  pub w6 : j .logw ≤ 6
-  pub h1 : 1 ≤ j .logh
-  pub h6 : j .logh ≤ 6
+  pub w1 : 1 ≤ j .«log2_w»
+  pub w6 : j .«log2_w» ≤ 6
+  pub h1 : 1 ≤ j .«log2_h»
+  pub h6 : j .«log2_h» ≤ 6
   pub qp63 : j .qp ≤ 63
-  pub dq31 : j .dqshift ≤ 31
-  pub it31 : j .itshift ≤ 31
+  pub dq31 : j .«dq_shift» ≤ 31
+  pub it31 : j .«it_shift» ≤ 31
   pub fits : areaEnd j ≤ n
 
 -- a packed area is one run of samples
 pub area-end : (j : Job) → areaEnd j ≡ j .start + height j * width j
-area-end j = reach-packed (j .start) (width j) (height j) (pow-pos (j .logh))
+area-end j = reach-packed (j .start) (width j) (height j) (pow-pos (j .«log2_h»))
 
 -- the tests of a job whose logs were handed in with other limits say the same of it
 pub accepted-as : (lo hi logw logh n : ℕ) (j : Job)
-    → (lo ≤ logw → logw ≤ hi → (1 ≤ j .logw) × (j .logw ≤ 6))
-    → (lo ≤ logh → logh ≤ hi → (1 ≤ j .logh) × (j .logh ≤ 6))
+    → (lo ≤ logw → logw ≤ hi → (1 ≤ j .«log2_w») × (j .«log2_w» ≤ 6))
+    → (lo ≤ logh → logh ≤ hi → (1 ≤ j .«log2_h») × (j .«log2_h» ≤ 6))
     → Unbroken (testsAs lo hi logw logh n j) → Accepted n j
 accepted-as lo hi logw logh n j fw fh u =
     let a = outside-no lo hi logw (u .0) in
@@ -57,13 +57,13 @@ accepted-as lo hi logw logh n j fw fh u =
 
 pub accepted : (n : ℕ) (j : Job) → jobNumber n j ≡ 0 → Accepted n j
 unfolding jobNumber
-accepted n j e = accepted-as 1 6 (j .logw) (j .logh) n j (λ a b. (a, b)) (λ a b. (a, b)) (unbroken (jobTests n j) e)
+accepted n j e = accepted-as 1 6 (j .«log2_w») (j .«log2_h») n j (λ a b. (a, b)) (λ a b. (a, b)) (unbroken (jobTests n j) e)
 
 pub accept : (n : ℕ) (j : Job) → Accepted n j → jobNumber n j ≡ 0
 unfolding jobNumber
 accept n j a =
     first-none (jobTests n j)
-    (inside-no 1 6 (j .logw) (a .w1) (a .w6), (inside-no 1 6 (j .logh) (a .h1) (a .h6), (le-ltb _ _ (a .qp63), (le-ltb _ _ (a .dq31), (le-ltb _ _ (a .it31), (le-ltb _ _ (a .fits), tt))))))
+    (inside-no 1 6 (j .«log2_w») (a .w1) (a .w6), (inside-no 1 6 (j .«log2_h») (a .h1) (a .h6), (le-ltb _ _ (a .qp63), (le-ltb _ _ (a .dq31), (le-ltb _ _ (a .it31), (le-ltb _ _ (a .fits), tt))))))
 
 pub lawful : Lawful blockJobs
 lawful =
@@ -72,6 +72,6 @@ lawful =
       keep = length-block;
       fits = λ n j e. (
         rows-distinct (j .start) (width j) (pitch j) (height j) (le-refl (width j)),
-        rows-below n (j .start) (width j) (pitch j) (height j) (pow-pos (j .logh)) (accepted n j e .fits),
+        rows-below n (j .start) (width j) (pitch j) (height j) (pow-pos (j .«log2_h»)) (accepted n j e .fits),
       );
     }

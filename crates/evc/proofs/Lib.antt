@@ -7,3 +7,4 @@ pub mod Jobs
 pub mod AnyOrder
 pub mod SubBlocks
 pub mod Marks
+pub mod Matches

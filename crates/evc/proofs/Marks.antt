@@ -12,7 +12,7 @@ use borrow.Author.Tests.{leb-true, leb-false, le-leb, lt-leb}
 use Rattle.integers.specs.Sum.{sum}
 use Rattle.integers.specs.Or.{ofOr, orN}
 use Rattle.integers.proofs.Sum.{sum-add, sum-ext}
-use Rattle.order.proofs.Tests.{neither-left, neither-right}
+use Rattle.integers.proofs.Bools.{neither-left, neither-right}
 use Rattle.evc.specs.Planes.{anyBelow}
 
 pub or-reaches : (k a b : ℕ) → leb (2 ^ k) (bitOr a b) ≡ leb (2 ^ k) a || leb (2 ^ k) b

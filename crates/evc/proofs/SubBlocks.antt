@@ -85,12 +85,12 @@ all-passed n s e =
 -- a component that passes its tests is an accepted job
 pub luma-accepted : (n : ℕ) (s : SubBlock) (c : Part) → first (lumaTests n s c) ≡ 0 → jobNumber n (luma s c) ≡ 0
 luma-accepted n s c e =
-    accept n (luma s c) (accepted-as 1 6 (s .logw) (s .logh) n (luma s c) (λ a b. (a, b)) (λ a b. (a, b)) (unbroken (lumaTests n s c) e))
+    accept n (luma s c) (accepted-as 1 6 (s .«log2_w») (s .«log2_h») n (luma s c) (λ a b. (a, b)) (λ a b. (a, b)) (unbroken (lumaTests n s c) e))
 
 pub chroma-accepted : (n : ℕ) (s : SubBlock) (c : Part) → first (chromaTests n s c) ≡ 0 → jobNumber n (chroma s c) ≡ 0
 chroma-accepted n s c e =
     accept n (chroma s c)
-    (accepted-as 2 7 (s .logw) (s .logh) n (chroma s c) (λ a b. (omega arith, omega arith)) (λ a b. (omega arith, omega arith)) (unbroken (chromaTests n s c) e))
+    (accepted-as 2 7 (s .«log2_w») (s .«log2_h») n (chroma s c) (λ a b. (omega arith, omega arith)) (λ a b. (omega arith, omega arith)) (unbroken (chromaTests n s c) e))
 
 none-shared : (j k : Job) → first (overlap j k ∷ []) ≡ 0 → shared (area j) (area k) ≡ []
 none-shared j k e = go (shared (area j) (area k)) (unbroken (overlap j k ∷ []) e .0)

@@ -9,7 +9,7 @@ use mathlib.Core.List.{List, [], _∷_}
 use lib.Dec.{ltb}
 use borrow.Author.Tests.{ltb-false, lt-ltb, le-ltb}
 use Rattle.order.specs.Jobs.{ifAccepted}
-use Rattle.order.proofs.Tests.{or-neither}
+use Rattle.integers.proofs.Bools.{or-neither}
 use Rattle.evc.specs.declared.Refusal.{Refusal}
 use Rattle.evc.specs.declared.Refusal.the-variants.{Size, Qp, Shift, Depth, Area, Overlap, Sample}
 use Rattle.evc.specs.Answers.{number, value, refused, replyNumber}

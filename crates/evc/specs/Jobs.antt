@@ -14,10 +14,10 @@ use Rattle.evc.specs.Dequantizer.{scale, dequantized}
 use Rattle.evc.specs.Stages.{stageOne, stageTwo}
 
 abbrev pub width : Job → ℕ
-width j = 2 ^ j .logw
+width j = 2 ^ j .«log2_w»
 
 abbrev pub height : Job → ℕ
-height j = 2 ^ j .logh
+height j = 2 ^ j .«log2_h»
 
 -- the row after a row starts a pitch later: here straight behind it
 abbrev pub pitch : Job → ℕ
@@ -36,13 +36,13 @@ testsAs lo hi logw logh n j =
     (Size when outside lo hi logw)
     ∷ (Size when outside lo hi logh)
     ∷ (Qp when ltb 63 (j .qp))
-    ∷ (Shift when ltb 31 (j .dqshift))
-    ∷ (Shift when ltb 31 (j .itshift))
+    ∷ (Shift when ltb 31 (j .«dq_shift»))
+    ∷ (Shift when ltb 31 (j .«it_shift»))
     ∷ (Area when ltb n (areaEnd j))
     ∷ []
 
 abbrev pub jobTests : ℕ → Job → List Test
-jobTests n j = testsAs 1 6 (j .logw) (j .logh) n j
+jobTests n j = testsAs 1 6 (j .«log2_w») (j .«log2_h») n j
 
 unfoldable pub jobNumber : ℕ → Job → ℕ
 jobNumber n j = first (jobTests n j)
@@ -50,9 +50,9 @@ jobNumber n j = first (jobTests n j)
 -- what the job makes of its samples: stage one has the size height and width lines, stage two the size width and height lines
 unfoldable pub block : Job → List ℤ → List ℤ
 block j l =
-    stageTwo (tm (width j)) (width j) (height j) (j .itshift)
+    stageTwo (tm (width j)) (width j) (height j) (j .«it_shift»)
     (stageOne (tm (height j)) (height j) (width j)
-    (map (dequantized (scale (j .qp)) (j .offset) (j .dqshift)) l))
+    (map (dequantized (scale (j .qp)) (j .offset) (j .«dq_shift»)) l))
 
 -- block jobs as a kind of job on one buffer, to which the theory of order applies
 abbrev pub blockJobs : Kind ℤ Job

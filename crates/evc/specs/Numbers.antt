@@ -18,7 +18,7 @@ minus n = negℤ (pos n)
 
 -- a job of 2 by 2 at the buffer's start
 abbrev small : Job
-small = record { start = 0; logw = 1; logh = 1; qp = 4; offset = pos 32; dqshift = 6; itshift = 12 }
+small = record { start = 0; «log2_w» = 1; «log2_h» = 1; qp = 4; offset = pos 32; «dq_shift» = 6; «it_shift» = 12 }
 
 -- SATD at depth 8 of w by h samples that are all 1 against samples that are all 0
 abbrev flat : ℕ → ℕ → ℕ → Reply ℕ

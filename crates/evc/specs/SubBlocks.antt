@@ -22,32 +22,32 @@ abbrev pub luma : SubBlock → Part → Job
 luma s c =
     record {
       start = c .start;
-      logw = s .logw;
-      logh = s .logh;
+      «log2_w» = s .«log2_w»;
+      «log2_h» = s .«log2_h»;
       qp = c .qp;
       offset = s .offset;
-      dqshift = s .dqshift;
-      itshift = s .itshift;
+      «dq_shift» = s .«dq_shift»;
+      «it_shift» = s .«it_shift»;
     }
 
 abbrev pub chroma : SubBlock → Part → Job
 chroma s c =
     record {
       start = c .start;
-      logw = s .logw - 1;
-      logh = s .logh - 1;
+      «log2_w» = s .«log2_w» - 1;
+      «log2_h» = s .«log2_h» - 1;
       qp = c .qp;
       offset = s .offset;
-      dqshift = s .dqshift;
-      itshift = s .itshift;
+      «dq_shift» = s .«dq_shift»;
+      «it_shift» = s .«it_shift»;
     }
 
 -- a component's tests on a buffer of n samples. Logs are tested as handed in, so that chroma's limits are 2 and 7
 abbrev pub lumaTests : ℕ → SubBlock → Part → List Test
-lumaTests n s c = testsAs 1 6 (s .logw) (s .logh) n (luma s c)
+lumaTests n s c = testsAs 1 6 (s .«log2_w») (s .«log2_h») n (luma s c)
 
 abbrev pub chromaTests : ℕ → SubBlock → Part → List Test
-chromaTests n s c = testsAs 2 7 (s .logw) (s .logh) n (chroma s c)
+chromaTests n s c = testsAs 2 7 (s .«log2_w») (s .«log2_h») n (chroma s c)
 
 -- two components share a sample; the positions that they share are `shared (area j) (area k)`, in ascending order
 abbrev pub isSome : List ℕ → Bool

@@ -4,12 +4,12 @@
 // One block job: where its samples start in the buffer, the logarithms of its sides, and its numbers.
 pub struct Job {
     pub start: usize,
-    pub logw: usize,
-    pub logh: usize,
+    pub log2_w: usize,
+    pub log2_h: usize,
     pub qp: u8,
     pub offset: i32,
-    pub dqshift: u8,
-    pub itshift: u8,
+    pub dq_shift: u8,
+    pub it_shift: u8,
 }
 
 // What a component of a sub-block has of its own.
@@ -21,11 +21,11 @@ pub struct Part {
 
 // A sub-block call: luma's logarithms, the numbers that all components share, and the components.
 pub struct SubBlock {
-    pub logw: usize,
-    pub logh: usize,
+    pub log2_w: usize,
+    pub log2_h: usize,
     pub offset: i32,
-    pub dqshift: u8,
-    pub itshift: u8,
+    pub dq_shift: u8,
+    pub it_shift: u8,
     pub y: Part,
     pub u: Part,
     pub v: Part,

@@ -14,7 +14,8 @@ pub mod Sum
 pub mod Written
 pub mod Loop
 pub mod Grid
--- tests that antt computes
+-- tests: what they come out as, and those that antt computes
+pub mod Bools
 pub mod Every
 -- straight-line machine code, and identities of whole numbers, by reflection
 pub mod Expr

@@ -1,10 +1,8 @@
-// Both stages of the inverse transform, line by line, of sizes 16, 32 and 64. A line is gathered, its sums are made by halving, and they are stored.
-mod gather;
-mod line;
-mod own;
+// The inverse transform, as its callers use it: each stage as one call that picks the shape for its size, and both stages on one area.
+mod both;
 mod stage_one;
 mod stage_two;
-mod store;
 
+pub use both::both_stages;
 pub use stage_one::itxb0;
 pub use stage_two::itxb1;

@@ -1,73 +1,41 @@
-// Stage one of the inverse transform, line by line: the Rust's `itx_pb16b0`, `itx_pb32b0` and `itx_pb64b0`, and one call that picks the size.
-// Document 01, "The two stages".
-// Differs from the Rust in: a call that breaks a test is not done; a line is copied first.
+// Stage one of the inverse transform, the call that others use: the Rust's `itx_pb2b0` .. `itx_pb64b0`, picked by the size. Document 01, "The two
+// stages". Three crates side by side do the work, and each answers whether it took the call; what none did is refused.
+// Differs from the Rust in: a call that breaks a test is refused and changes nothing.
 ghost use mathlib.Core.Path.{_≡_};
-ghost use Prim.Native.Nat.{_*_};
-ghost use Rattle.integers.specs.Lists.{written};
-ghost use Rattle.evc.specs.Table.{tm};
-ghost use Rattle.evc.specs.Stages.{stageOneAt};
-ghost use Rattle.halving.specs.Lines.{Rooms};
-ghost use Rattle.halving.specs.Own.{ownOne, doneOne};
-use super::gather::gather_i16;
-use super::own::own16;
-use super::own::own32;
-use super::own::own64;
-use super::store::store_i32;
+ghost use mathlib.Core.Bool.{false};
+ghost use lib.ListN.{length};
+ghost use Rattle.evc.specs.Answers.{answerNumber};
+ghost use Rattle.evc.specs.Stages.{stageOneNumber, itxb0Exit};
+ghost use Rattle.itx_halving.specs.Taken.{takesOne};
+use evc::Answer;
+use itx_halving::by_value;
 
-// All lines, one after the other, of each size.
-fn itx_pb16b0(src: &[i16], dst: &mut [i32], l: usize)
-    requires { ⌜ Rooms (now src) (now dst) 16 l ⌝ }
-    ensures { λ _. ⌜ now (dst .exit) ≡ written (16 * l) (stageOneAt (tm 16) 16 l (now (src .entry))) (now (dst .entry)) ⌝ }
+// What `itxb0_small` does not do. It is called in two places: compilers inline what has one caller, and a small call would pay for the buffers of the
+// large ones.
+fn large(src: &[i16], dst: &mut [i32], log2_size: usize, log2_line: usize) -> Answer
+    requires { ⌜ takesOne 1 3 0 «log2_size» «log2_line» (now src) (now dst) ≡ false ⌝ }
+    ensures answer { λ r. ⌜ answerNumber r ≡ stageOneNumber (length (now (src .entry))) (length (now (dst .entry))) «log2_size» «log2_line» ⌝ }
+    ensures exit { λ _. ⌜ now (dst .exit) ≡ itxb0Exit «log2_size» «log2_line» (now (src .entry)) (now (dst .entry)) ⌝ }
 {
-    for j in 0..l {
-        let mut x = [0i64; 16];
-        gather_i16(src, &mut x, 16, l, j);
-        let mut e = [0i64; 16];
-        own16(&x, &mut e);
-        store_i32(&e, dst, 16, j);
+    if itxb0_blocks::itxb0(src, dst, log2_size, log2_line) {
+        return Answer::Done;
     }
+    if itx_lines::itxb0(src, dst, log2_size, log2_line) {
+        return Answer::Done;
+    }
+    itx_halving::stage_one(src.len(), dst.len(), log2_size, log2_line)
 }
 
-fn itx_pb32b0(src: &[i16], dst: &mut [i32], l: usize)
-    requires { ⌜ Rooms (now src) (now dst) 32 l ⌝ }
-    ensures { λ _. ⌜ now (dst .exit) ≡ written (32 * l) (stageOneAt (tm 32) 32 l (now (src .entry))) (now (dst .entry)) ⌝ }
+// Stage one of size 2^log2_size on 2^log2_line lines.
+pub fn itxb0(src: &[i16], dst: &mut [i32], log2_size: usize, log2_line: usize) -> Answer
+    ensures answer { λ r. ⌜ answerNumber r ≡ stageOneNumber (length (now (src .entry))) (length (now (dst .entry))) «log2_size» «log2_line» ⌝ }
+    ensures exit { λ _. ⌜ now (dst .exit) ≡ itxb0Exit «log2_size» «log2_line» (now (src .entry)) (now (dst .entry)) ⌝ }
 {
-    for j in 0..l {
-        let mut x = [0i64; 32];
-        gather_i16(src, &mut x, 32, l, j);
-        let mut e = [0i64; 32];
-        own32(&x, &mut e);
-        store_i32(&e, dst, 32, j);
+    if 3 < log2_size {
+        return by_value(large(&src[..], dst, log2_size, log2_line));
     }
-}
-
-fn itx_pb64b0(src: &[i16], dst: &mut [i32], l: usize)
-    requires { ⌜ Rooms (now src) (now dst) 64 l ⌝ }
-    ensures { λ _. ⌜ now (dst .exit) ≡ written (64 * l) (stageOneAt (tm 64) 64 l (now (src .entry))) (now (dst .entry)) ⌝ }
-{
-    let t = table::table();
-    for j in 0..l {
-        let mut x = [0i64; 64];
-        gather_i16(src, &mut x, 64, l, j);
-        let mut e = [0i64; 64];
-        own64(&t, &x, &mut e);
-        store_i32(&e, dst, 64, j);
+    if itxb0_small::itxb0(src, dst, log2_size, log2_line) {
+        return Answer::Done;
     }
-}
-
-// Stage one of size 2^log2_size on 2^log2_line lines, where the size is 16, 32 or 64 and no test is broken; whether that is so.
-pub fn itxb0(src: &[i16], dst: &mut [i32], log2_size: usize, log2_line: usize) -> bool
-    ensures did { λ r. ⌜ r ≡ ownOne 4 6 0 «log2_size» «log2_line» (now (src .entry)) (now (dst .entry)) ⌝ }
-    ensures exit { λ r. ⌜ now (dst .exit) ≡ doneOne r «log2_size» «log2_line» (now (src .entry)) (now (dst .entry)) ⌝ }
-{
-    if halving::mine(4, 6, 0, src.len(), dst.len(), log2_size, log2_line, 0) {
-        let l = 1usize << log2_line;
-        match log2_size {
-            4 => itx_pb16b0(src, dst, l),
-            5 => itx_pb32b0(src, dst, l),
-            _ => itx_pb64b0(src, dst, l),
-        }
-        return true;
-    }
-    false
+    by_value(large(&src[..], dst, log2_size, log2_line))
 }

@@ -1,75 +1,40 @@
-// Stage two of the inverse transform, line by line: the Rust's `itx_pb16b1`, `itx_pb32b1` and `itx_pb64b1`, and one call that picks the size.
-// Document 01, "The two stages".
-// Differs from the Rust in: a call that breaks a test is not done; a line is copied first; shift 0 adds 0.
+// Stage two of the inverse transform, the call that others use: the Rust's `itx_pb2b1` .. `itx_pb64b1`, picked by the size. Document 01, "The two
+// stages". Three crates side by side do the work, and each answers whether it took the call; what none did is refused.
+// Differs from the Rust in: a call that breaks a test is refused and changes nothing.
 ghost use mathlib.Core.Path.{_≡_};
-ghost use Prim.Native.Nat.{_*_};
-ghost use Rattle.integers.specs.Lists.{written};
-ghost use Rattle.evc.specs.Table.{tm};
-ghost use Rattle.evc.specs.Stages.{stageTwoAt};
-ghost use Rattle.halving.specs.Lines.{Amount, Rooms};
-ghost use Rattle.halving.specs.Own.{ownTwo, doneTwo};
-use super::gather::gather_i32;
-use super::own::own16;
-use super::own::own32;
-use super::own::own64;
-use super::store::store_i16;
+ghost use mathlib.Core.Bool.{false};
+ghost use lib.ListN.{length};
+ghost use Rattle.evc.specs.Answers.{answerNumber};
+ghost use Rattle.evc.specs.Stages.{stageTwoNumber, itxb1Exit};
+ghost use Rattle.itx_halving.specs.Taken.{takesTwo};
+use evc::Answer;
+use itx_halving::by_value;
 
-// All lines, one after the other, of each size.
-fn itx_pb16b1(src: &[i32], dst: &mut [i16], l: usize, add: i64, shift: u8)
-    requires { ⌜ Amount add shift × Rooms (now src) (now dst) 16 l ⌝ }
-    ensures { λ _. ⌜ now (dst .exit) ≡ written (16 * l) (stageTwoAt (tm 16) 16 l shift (now (src .entry))) (now (dst .entry)) ⌝ }
+// What `itxb1_small` does not do, called in two places as in stage one.
+fn large(src: &[i32], dst: &mut [i16], log2_size: usize, log2_line: usize, shift: u8) -> Answer
+    requires { ⌜ takesTwo 1 3 0 «log2_size» «log2_line» shift (now src) (now dst) ≡ false ⌝ }
+    ensures answer { λ r. ⌜ answerNumber r ≡ stageTwoNumber (length (now (src .entry))) (length (now (dst .entry))) «log2_size» «log2_line» shift ⌝ }
+    ensures exit { λ _. ⌜ now (dst .exit) ≡ itxb1Exit «log2_size» «log2_line» shift (now (src .entry)) (now (dst .entry)) ⌝ }
 {
-    for j in 0..l {
-        let mut x = [0i64; 16];
-        gather_i32(src, &mut x, 16, l, j);
-        let mut e = [0i64; 16];
-        own16(&x, &mut e);
-        store_i16(&e, dst, 16, j, add, shift);
+    if itxb1_blocks::itxb1(src, dst, log2_size, log2_line, shift) {
+        return Answer::Done;
     }
+    if itx_lines::itxb1(src, dst, log2_size, log2_line, shift) {
+        return Answer::Done;
+    }
+    itx_halving::stage_two(src.len(), dst.len(), log2_size, log2_line, shift)
 }
 
-fn itx_pb32b1(src: &[i32], dst: &mut [i16], l: usize, add: i64, shift: u8)
-    requires { ⌜ Amount add shift × Rooms (now src) (now dst) 32 l ⌝ }
-    ensures { λ _. ⌜ now (dst .exit) ≡ written (32 * l) (stageTwoAt (tm 32) 32 l shift (now (src .entry))) (now (dst .entry)) ⌝ }
+// Stage two of size 2^log2_size on 2^log2_line lines.
+pub fn itxb1(src: &[i32], dst: &mut [i16], log2_size: usize, log2_line: usize, shift: u8) -> Answer
+    ensures answer { λ r. ⌜ answerNumber r ≡ stageTwoNumber (length (now (src .entry))) (length (now (dst .entry))) «log2_size» «log2_line» shift ⌝ }
+    ensures exit { λ _. ⌜ now (dst .exit) ≡ itxb1Exit «log2_size» «log2_line» shift (now (src .entry)) (now (dst .entry)) ⌝ }
 {
-    for j in 0..l {
-        let mut x = [0i64; 32];
-        gather_i32(src, &mut x, 32, l, j);
-        let mut e = [0i64; 32];
-        own32(&x, &mut e);
-        store_i16(&e, dst, 32, j, add, shift);
+    if 3 < log2_size {
+        return by_value(large(&src[..], dst, log2_size, log2_line, shift));
     }
-}
-
-fn itx_pb64b1(src: &[i32], dst: &mut [i16], l: usize, add: i64, shift: u8)
-    requires { ⌜ Amount add shift × Rooms (now src) (now dst) 64 l ⌝ }
-    ensures { λ _. ⌜ now (dst .exit) ≡ written (64 * l) (stageTwoAt (tm 64) 64 l shift (now (src .entry))) (now (dst .entry)) ⌝ }
-{
-    let t = table::table();
-    for j in 0..l {
-        let mut x = [0i64; 64];
-        gather_i32(src, &mut x, 64, l, j);
-        let mut e = [0i64; 64];
-        own64(&t, &x, &mut e);
-        store_i16(&e, dst, 64, j, add, shift);
+    if itxb1_small::itxb1(src, dst, log2_size, log2_line, shift) {
+        return Answer::Done;
     }
-}
-
-// Stage two of size 2^log2_size on 2^log2_line lines, where the size is 16, 32 or 64 and no test is broken; whether that is so.
-pub fn itxb1(src: &[i32], dst: &mut [i16], log2_size: usize, log2_line: usize, shift: u8) -> bool
-    ensures did { λ r. ⌜ r ≡ ownTwo 4 6 0 «log2_size» «log2_line» shift (now (src .entry)) (now (dst .entry)) ⌝ }
-    ensures exit { λ r. ⌜ now (dst .exit) ≡ doneTwo r «log2_size» «log2_line» shift (now (src .entry)) (now (dst .entry)) ⌝ }
-{
-    if halving::mine(4, 6, 0, src.len(), dst.len(), log2_size, log2_line, shift) {
-        // in this order a compiler has one value less to save around the sums of each line
-        let add = halving::rounding(shift);
-        let l = 1usize << log2_line;
-        match log2_size {
-            4 => itx_pb16b1(src, dst, l, add, shift),
-            5 => itx_pb32b1(src, dst, l, add, shift),
-            _ => itx_pb64b1(src, dst, l, add, shift),
-        }
-        return true;
-    }
-    false
+    by_value(large(&src[..], dst, log2_size, log2_line, shift))
 }

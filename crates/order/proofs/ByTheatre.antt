@@ -12,7 +12,7 @@ use lib.ListN.{length, getD}
 use lib.Seq.{ext-getD}
 use Rattle.order.specs.Jobs.{Kind, Lawful, after, jobs, answers, samples, owns, Apart, Separate, Ended}
 use Rattle.order.specs.Theatres.{only, SameByTheatre, SeparateTheatres, OwnTheatres}
-use Rattle.order.proofs.Tests.{never-true}
+use Rattle.integers.proofs.Bools.{never-true}
 use Rattle.order.proofs.Positions.{gather-agree}
 use Rattle.order.proofs.OneJob.{accepted-owns, length-after, elsewhere-unchanged, after-agree, apart-prop, apart-sym}
 use Rattle.order.proofs.Steps.{owner, length-jobs, jobs-outside}

@@ -11,7 +11,7 @@ use borrow.Author.Tests.{ltb-false}
 use native.Mathlib.Omega.{arith}
 use Rattle.order.specs.Positions.{row, rows, reach, shared}
 use Rattle.order.specs.Jobs.{Kind, Lawful, jobs, answers, Separate}
-use Rattle.order.proofs.Tests.{by-test}
+use Rattle.integers.proofs.Bools.{by-test}
 use Rattle.order.proofs.Rows.{row-distinct, row-below}
 use Rattle.order.proofs.OneJob.{apart-of-shared, separate-cons}
 use Rattle.order.proofs.AnyOrder.{AnyOrder, any-order}

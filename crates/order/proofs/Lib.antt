@@ -1,5 +1,4 @@
 -- Laws and theorems of jobs on one buffer. Read OneJob, AnyOrder, ByTheatre, and Examples; the others lead there, and serve the crates above.
-pub mod Tests
 pub mod Positions
 pub mod Rows
 pub mod OneJob

@@ -10,7 +10,7 @@ use native.Mathlib.Omega.{arith}
 use lib.ListN.{length, getD}
 use Rattle.order.specs.Positions.{has, shared}
 use Rattle.order.specs.Jobs.{Kind, Lawful, ifAccepted, after, samples, owns, Apart, Separate}
-use Rattle.order.proofs.Tests.{by-test, and-both}
+use Rattle.integers.proofs.Bools.{by-test, and-both}
 use Rattle.order.proofs.Positions.{length-gather, length-put, gather-agree, gather-at, gather-put, put-outside, shared-none}
 
 by-answer : {C : Type 0} (m : ℕ) → (m ≡ 0 → C) → ((m ≡ 0 → ⊥) → C) → C

@@ -15,7 +15,7 @@ use lib.ListN.{length, getD, set, length-set}
 use lib.Seq.{getD-set-same, getD-set-other}
 use borrow.Author.Tests.{eq-eqb, eqb-true, eqb-false}
 use Rattle.order.specs.Positions.{has, shared, Distinct, Ascending, Below, gather, put}
-use Rattle.order.proofs.Tests.{by-test, not-both, never-true, same-test, or-cases, or-neither, or-left, or-right, and-both}
+use Rattle.integers.proofs.Bools.{by-test, not-both, never-true, same-test, or-cases, or-neither, or-left, or-right, and-both}
 
 -- ---- which positions a list has
 pub has-head : (p : ℕ) (ps : List ℕ) → has (p ∷ ps) p ≡ true

@@ -6,7 +6,7 @@ use mathlib.Core.Bool.{Bool, true, false}
 use mathlib.Core.List.{List, [], _∷_, map, List·Memᴰ, List·Memᴰ·head, List·Memᴰ·tail, List·Memᴰ·not-nil, List·Memᴰ·cases-cons, List·Memᴰ·eq-of-singleton, Pairwise·cons}
 use lib.ListN.{length, getD}
 use Rattle.order.specs.Jobs.{Kind, Lawful, after, jobs, answers, samples, owns, Apart, Separate}
-use Rattle.order.proofs.Tests.{never-true}
+use Rattle.integers.proofs.Bools.{never-true}
 use Rattle.order.proofs.Positions.{gather-agree}
 use Rattle.order.proofs.OneJob.{length-after, elsewhere-unchanged, accepted-done, accepted-owns}
 

@@ -2,10 +2,10 @@
 // "Distortion".
 // Differs from the Rust in: the common widths are literals, for which compilers write straight vector code.
 ghost use lib.ListN.{length};
-ghost use Rattle.planes.specs.Blocks.{TwoBlocks, cell};
-ghost use Rattle.compare.specs.Totals.{BlocksTold, apart};
+ghost use Rattle.plane_tests.specs.Blocks.{TwoBlocks, cell};
+ghost use Rattle.block_rows.specs.Totals.{BlocksTotalled, apart};
 use crate::rows::sad_row;
-use compare::Totals;
+use block_rows::Totals;
 
 fn sad_rows(
     a: &[u16],
@@ -18,7 +18,7 @@ fn sad_rows(
     h: usize,
 ) -> Totals
     requires { ⌜ TwoBlocks w h (length (now a)) «a_at» «a_stride» (length (now b)) «b_at» «b_stride» ⌝ }
-    ensures { λ r. ⌜ BlocksTold apart w h (cell 0 (now (a .entry)) «a_at» «a_stride») (cell 0 (now (b .entry)) «b_at» «b_stride») (r .sum) (r .any) ⌝ }
+    ensures { λ r. ⌜ BlocksTotalled apart w h (cell 0 (now (a .entry)) «a_at» «a_stride») (cell 0 (now (b .entry)) «b_at» «b_stride») (r .sum) (r .any) ⌝ }
 {
     let mut sum: u64 = 0;
     let mut any: u16 = 0;
@@ -46,7 +46,7 @@ pub(crate) fn sad_block(
     h: usize,
 ) -> Totals
     requires { ⌜ TwoBlocks w h (length (now a)) «a_at» «a_stride» (length (now b)) «b_at» «b_stride» ⌝ }
-    ensures { λ r. ⌜ BlocksTold apart w h (cell 0 (now (a .entry)) «a_at» «a_stride») (cell 0 (now (b .entry)) «b_at» «b_stride») (r .sum) (r .any) ⌝ }
+    ensures { λ r. ⌜ BlocksTotalled apart w h (cell 0 (now (a .entry)) «a_at» «a_stride») (cell 0 (now (b .entry)) «b_at» «b_stride») (r .sum) (r .any) ⌝ }
 {
     if w == 4 {
         if h == 4 {

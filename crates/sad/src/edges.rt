@@ -6,19 +6,19 @@ ghost use lib.Bits.{bitOr};
 ghost use lib.IntN.{pos, _+ℤ_};
 ghost use lib.ListN.{length, getD};
 ghost use Rattle.evc.specs.Planes.{edge};
-ghost use Rattle.planes.specs.Blocks.{cell};
-ghost use Rattle.compare.specs.Totals.{Told, BlocksTold, apart};
-ghost use Rattle.compare.specs.Edges.{AtEdges, edgeCell};
+ghost use Rattle.plane_tests.specs.Blocks.{cell};
+ghost use Rattle.block_rows.specs.Totals.{Totalled, BlocksTotalled, apart};
+ghost use Rattle.block_rows.specs.Edges.{AtEdges, edgeCell};
 use crate::rows::sad_row;
-use compare::Totals;
+use block_rows::Totals;
 
 // A row, and one that is read at the columns from x on.
 fn edge_row(a: &[u16], row: &[u16], x: i16, w: usize) -> Totals
     requires { ⌜ (length (now a) ≡ w) × (w ≤ 64) ⌝ }
-    ensures { λ r. ⌜ Told w (λ i. apart (getD (now (a .entry)) i 0) (getD (now (row .entry)) (edge (x +ℤ pos i)) 0)) (λ i. bitOr (getD (now (a .entry)) i 0) (getD (now (row .entry)) (edge (x +ℤ pos i)) 0)) (r .sum) (r .any) ⌝ }
+    ensures { λ r. ⌜ Totalled w (λ i. apart (getD (now (a .entry)) i 0) (getD (now (row .entry)) (edge (x +ℤ pos i)) 0)) (λ i. bitOr (getD (now (a .entry)) i 0) (getD (now (row .entry)) (edge (x +ℤ pos i)) 0)) (r .sum) (r .any) ⌝ }
 {
     let mut line = [0u16; 64];
-    compare::edge_row(row, x, &mut line[..w]);
+    block_rows::edge_row(row, x, &mut line[..w]);
     sad_row(a, &line[..w], w)
 }
 
@@ -35,14 +35,14 @@ fn edge_rows(
     h: usize,
 ) -> Totals
     requires { ⌜ AtEdges w h (length (now org)) at stride (length (now reference)) «ref_stride» «mv_x» «mv_y» ⌝ }
-    ensures { λ r. ⌜ BlocksTold apart w h (cell 0 (now (org .entry)) at stride) (edgeCell (now (reference .entry)) «ref_stride» «mv_x» «mv_y») (r .sum) (r .any) ⌝ }
+    ensures { λ r. ⌜ BlocksTotalled apart w h (cell 0 (now (org .entry)) at stride) (edgeCell (now (reference .entry)) «ref_stride» «mv_x» «mv_y») (r .sum) (r .any) ⌝ }
 {
     let mut sum: u64 = 0;
     let mut any: u16 = 0;
     for j in 0..h {
         let from = at + j * stride;
         let to = from + w;
-        let row = compare::row_start(mv_x, mv_y, j as u16).row;
+        let row = block_rows::row_start(mv_x, mv_y, j as u16).row;
         let base = row * ref_stride;
         let t = edge_row(&org[from..to], &reference[base..], mv_x, w);
         sum = sum + t.sum;
@@ -64,12 +64,12 @@ pub(crate) fn total(
     h: usize,
 ) -> Totals
     requires { ⌜ AtEdges w h (length (now org)) at stride (length (now reference)) «ref_stride» «mv_x» «mv_y» ⌝ }
-    ensures { λ r. ⌜ BlocksTold apart w h (cell 0 (now (org .entry)) at stride) (edgeCell (now (reference .entry)) «ref_stride» «mv_x» «mv_y») (r .sum) (r .any) ⌝ }
+    ensures { λ r. ⌜ BlocksTotalled apart w h (cell 0 (now (org .entry)) at stride) (edgeCell (now (reference .entry)) «ref_stride» «mv_x» «mv_y») (r .sum) (r .any) ⌝ }
 {
-    if compare::negative(mv_x, mv_y) {
+    if block_rows::negative(mv_x, mv_y) {
         return edge_rows(org, at, stride, reference, ref_stride, mv_x, mv_y, w, h);
     }
-    let first = compare::row_start(mv_x, mv_y, 0);
+    let first = block_rows::row_start(mv_x, mv_y, 0);
     let row = first.row;
     let column = first.column;
     let from = row * ref_stride + column;

@@ -3,8 +3,8 @@
 // Differs from the Rust in: samples are tested by the OR of all that are read, compared once by the caller, so that these loops have no way out
 // and become vector code.
 ghost use mathlib.Core.Path.{_≡_};
-ghost use Rattle.compare.specs.Totals.{RowsTold, TwoRows, apart};
-use compare::Totals;
+ghost use Rattle.block_rows.specs.Totals.{RowsTotalled, TwoRows, apart};
+use block_rows::Totals;
 
 // How far two samples are apart.
 fn distance(p: u16, q: u16) -> u16
@@ -35,7 +35,7 @@ fn gap(p: u16, q: u16, w: usize) -> u32
 // The absolute differences of two rows, added.
 pub(crate) fn sad_row(a: &[u16], b: &[u16], w: usize) -> Totals
     requires { ⌜ TwoRows w (now a) (now b) ⌝ }
-    ensures { λ r. ⌜ RowsTold apart w (now (a .entry)) (now (b .entry)) (r .sum) (r .any) ⌝ }
+    ensures { λ r. ⌜ RowsTotalled apart w (now (a .entry)) (now (b .entry)) (r .sum) (r .any) ⌝ }
 {
     let mut sum: u32 = 0;
     let mut any: u16 = 0;

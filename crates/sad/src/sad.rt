@@ -26,16 +26,16 @@ pub fn evce_sad_16b(
 ) -> Distortion
     ensures { λ r. ⌜ distortionReading r ≡ sad16b (planeOf (now (org .entry)) width height stride) x y (planeOf (now (reference .entry)) «ref_width» «ref_height» «ref_stride») «mv_x» «mv_y» w h depth ⌝ }
 {
-    if planes::sides(w, h) {
+    if plane_tests::bad_sides(w, h) {
         return Distortion::Refused(Refusal::Size);
     }
-    if planes::wrong_depth(depth) {
+    if plane_tests::bad_depth(depth) {
         return Distortion::Refused(Refusal::Depth);
     }
-    if planes::outside_plane(org.len(), width, height, stride, x, y, w, h) {
+    if plane_tests::outside_plane(org.len(), width, height, stride, x, y, w, h) {
         return Distortion::Refused(Refusal::Area);
     }
-    if planes::outside_edges(
+    if plane_tests::outside_edges(
         reference.len(),
         ref_width,
         ref_height,
@@ -58,7 +58,7 @@ pub fn evce_sad_16b(
         w,
         h,
     );
-    marks::sad_answer(t.sum, t.any, depth)
+    sample_tests::sad_answer(t.sum, t.any, depth)
 }
 
 pub fn evce_sad_16i(
@@ -75,18 +75,18 @@ pub fn evce_sad_16i(
 ) -> Distortion
     ensures { λ r. ⌜ distortionReading r ≡ sad16i (planeOf (now (org .entry)) width height stride) x y w h (now (pred .entry)) depth ⌝ }
 {
-    if planes::sides(w, h) {
+    if plane_tests::bad_sides(w, h) {
         return Distortion::Refused(Refusal::Size);
     }
-    if planes::wrong_depth(depth) {
+    if plane_tests::bad_depth(depth) {
         return Distortion::Refused(Refusal::Depth);
     }
-    if planes::outside_plane(org.len(), width, height, stride, x, y, w, h) {
+    if plane_tests::outside_plane(org.len(), width, height, stride, x, y, w, h) {
         return Distortion::Refused(Refusal::Area);
     }
-    if planes::outside_plane(pred.len(), w, h, w, 0, 0, w, h) {
+    if plane_tests::outside_plane(pred.len(), w, h, w, 0, 0, w, h) {
         return Distortion::Refused(Refusal::Area);
     }
     let t = crate::blocks::sad_block(org, y * stride + x, stride, pred, 0, w, w, h);
-    marks::sad_answer(t.sum, t.any, depth)
+    sample_tests::sad_answer(t.sum, t.any, depth)
 }

@@ -10,7 +10,7 @@ use native.Mathlib.Omega.{arith}
 use lib.Dec.{eqb}
 use lib.IntN.{ℤ, pos, natAbs, _-ℤ_, _*ℤ_}
 use lib.ListN.{getD}
-use Rattle.order.proofs.Tests.{neither-left, neither-right}
+use Rattle.integers.proofs.Bools.{neither-left, neither-right}
 use Rattle.integers.specs.Lists.{tab}
 use Rattle.integers.specs.Sum.{ofZ+, ofN+, sumZ, sumN}
 use Rattle.integers.proofs.Sum.{sum-ext, sum-le}
@@ -21,11 +21,11 @@ use Rattle.evc.specs.Tests.{first, reply, outside}
 use Rattle.evc.specs.Planes.{Block}
 use Rattle.evc.specs.Differences.{difference}
 use Rattle.evc.specs.Calls.{compareTests, sampleTests, satdSizes, satdReply}
-use Rattle.hadamard.specs.Passes.{entry}
-use Rattle.hadamard.proofs.Most.{number-most}
+use Rattle.satd_tiles.specs.Passes.{entry}
+use Rattle.satd_tiles.proofs.Most.{number-most}
 use Rattle.integers.proofs.Parts.{abs-dif-le}
-use Rattle.planes.specs.Blocks.{cell, rest}
-use Rattle.planes.proofs.Replies.{Alike, dif-alike, at-size, at-depth, at-area, at-second, at-rest}
+use Rattle.plane_tests.specs.Blocks.{cell, rest}
+use Rattle.plane_tests.proofs.Replies.{Alike, dif-alike, at-size, at-depth, at-area, at-second, at-rest}
 use Rattle.diff.specs.Small.{Tested, apartFrom}
 use Rattle.satd.specs.Sides.{Side}
 

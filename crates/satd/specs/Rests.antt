@@ -4,7 +4,7 @@ use Rattle.evc.specs.Answers.{Reply}
 use Rattle.evc.specs.Planes.{Block}
 use Rattle.evc.specs.Differences.{difference}
 use Rattle.evc.specs.Tiles.{tileSide, satdTotal}
-use Rattle.planes.specs.Blocks.{rest}
+use Rattle.plane_tests.specs.Blocks.{rest}
 
 abbrev pub satdLeft : ℕ → ℕ → ℕ → Block → Block → Reply ℕ
 satdLeft w h depth a b = rest w h a b (satdTotal (tileSide w h) w h (difference a b) / 2 ^ (depth - 8))

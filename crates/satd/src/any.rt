@@ -1,7 +1,7 @@
 // The OR of all samples of two blocks, of which the second is packed. Common widths are literals, for which compilers write straight vector code.
 ghost use mathlib.Core.Path.{_≡_};
 ghost use lib.ListN.{length};
-ghost use Rattle.planes.specs.Blocks.{TwoBlocks};
+ghost use Rattle.plane_tests.specs.Blocks.{TwoBlocks};
 ghost use Rattle.diff.specs.Small.{blocksMarks};
 
 pub(crate) fn any_block(

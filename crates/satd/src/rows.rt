@@ -9,7 +9,7 @@ ghost use lib.IntN.{pos, _-ℤ_};
 ghost use lib.ListN.{length, getD};
 ghost use Rattle.integers.specs.Lists.{tab};
 ghost use Rattle.integers.specs.Or.{orN};
-ghost use Rattle.planes.specs.Blocks.{TwoBlocks};
+ghost use Rattle.plane_tests.specs.Blocks.{TwoBlocks};
 ghost use Rattle.diff.specs.Small.{SmallRow, blocksMarks};
 
 // The OR of two rows of w samples, that start at p and q.

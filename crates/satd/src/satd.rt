@@ -6,7 +6,7 @@ ghost use lib.ListN.{length};
 ghost use Rattle.evc.specs.Answers.{distortionReading};
 ghost use Rattle.evc.specs.Calls.{satd16b};
 ghost use Rattle.evc.specs.Planes.{planeOf};
-ghost use Rattle.planes.specs.Blocks.{TwoBlocks, strided};
+ghost use Rattle.plane_tests.specs.Blocks.{TwoBlocks, strided};
 ghost use Rattle.satd.specs.Rests.{satdLeft};
 use evc::Distortion;
 use evc::Refusal;
@@ -30,7 +30,7 @@ fn of_blocks(
     if any >> depth != 0 {
         return Distortion::Refused(Refusal::Sample);
     }
-    let sum = crate::sums::total(tiles::side(w, h), a, a_at, a_stride, b, w, h);
+    let sum = crate::sums::total(satd_rules::side(w, h), a, a_at, a_stride, b, w, h);
     let satd = (sum >> (depth - 8)) as u32;
     Distortion::Value(satd)
 }
@@ -49,13 +49,15 @@ pub fn evce_satd_16b(
 ) -> Distortion
     ensures { λ r. ⌜ distortionReading r ≡ satd16b (planeOf (now (org .entry)) width height stride) x y w h (now (cur .entry)) depth ⌝ }
 {
-    if planes::uneven_sides(w, h) {
+    if plane_tests::bad_even_sides(w, h) {
         return Distortion::Refused(Refusal::Size);
     }
-    if planes::wrong_depth(depth) {
+    if plane_tests::bad_depth(depth) {
         return Distortion::Refused(Refusal::Depth);
     }
-    if planes::outside_plane(org.len(), width, height, stride, x, y, w, h) | (cur.len() < h * w) {
+    if plane_tests::outside_plane(org.len(), width, height, stride, x, y, w, h)
+        | (cur.len() < h * w)
+    {
         return Distortion::Refused(Refusal::Area);
     }
     of_blocks(org, y * stride + x, stride, cur, w, h, depth)

@@ -35,5 +35,5 @@ pub(crate) fn number(
         let r = row(a, a_at + j * a_stride, b, b_at + j * b_stride);
         out[j] = r;
     }
-    hadamard::evc_had_2x2(out)
+    satd_tiles::evc_had_2x2(out)
 }

@@ -13,11 +13,11 @@ use Rattle.evc.specs.Tests.{_when_, first, reply}
 use Rattle.evc.specs.Planes.{Block}
 use Rattle.evc.specs.Differences.{difference, ssdTotal}
 use Rattle.evc.proofs.Marks.{below-all}
-use Rattle.planes.specs.Blocks.{rest}
-use Rattle.planes.proofs.Replies.{Alike, dif-alike}
-use Rattle.compare.specs.Totals.{BlocksTold, apart}
-use Rattle.compare.proofs.Cells.{compared-most}
-use Rattle.compare.proofs.Marked.{samples, marked-value}
+use Rattle.plane_tests.specs.Blocks.{rest}
+use Rattle.plane_tests.proofs.Replies.{Alike, dif-alike}
+use Rattle.block_rows.specs.Totals.{BlocksTotalled, apart}
+use Rattle.block_rows.proofs.Cells.{compared-most}
+use Rattle.block_rows.proofs.Marked.{samples, marked-value}
 use Rattle.ssd.specs.Squares.{squared, squaredLow}
 use Rattle.ssd.proofs.Squares.{squared-low-le, squared-low-is}
 
@@ -30,7 +30,7 @@ module _ {w h : ℕ} {a a′ b b′ : Block} (p : Alike w h a a′) (q : Alike w
       (λ j n. sum-ext ofN+ w (λ i. f (difference a b j i)) (λ i. f (difference a′ b′ j i)) (λ i m. ap f (dif-alike p q j i n m)))
 
 -- A and B give what row j, column i of each block reads
-module _ (w h depth : ℕ) (A B : ℕ → ℕ → ℕ) {sum any : ℕ} (t : BlocksTold (squaredLow depth) w h A B sum any) where
+module _ (w h depth : ℕ) (A B : ℕ → ℕ → ℕ) {sum any : ℕ} (t : BlocksTotalled (squaredLow depth) w h A B sum any) where
   pub ssd-small : 8 ≤ depth → w ≤ 64 → h ≤ 64 → sum < 2 ^ 63
   ssd-small d p q =
       let m = compared-most w h 65535 (λ j i. squaredLow depth (A j i) (B j i)) (λ j i. bitOr (A j i) (B j i)) t p q (λ j i. squared-low-le depth (A j i) (B j i) d) in
@@ -45,10 +45,10 @@ module _ (w h depth : ℕ) (A B : ℕ → ℕ → ℕ) {sum any : ℕ} (t : Bloc
       (λ j m. sum-ext ofN+ w (λ i. squaredLow depth (A j i) (B j i)) (λ i. squared (2 * (depth - 8)) (A j i) (B j i))
       (λ i n. squared-low-is depth (A j i) (B j i) (each j i m n .0) (each j i m n .1)))
 
-  pub ssd-told :
+  pub ssd-totalled :
       reply (first ((Sample when leb (2 ^ depth) any) ∷ [])) (pos sum)
       ≡ rest w h (samples depth A) (samples depth B) (pos (ssdTotal (2 * (depth - 8)) w h (difference (samples depth A) (samples depth B))))
   unfolding ssdTotal squared apart
-  ssd-told =
+  ssd-totalled =
       marked-value w h depth (samples depth A) (samples depth B) A B (λ j i. refl) (λ j i. refl) (t .marks) (pos sum)
       (pos (sumN h (λ j. sumN w (λ i. squared (2 * (depth - 8)) (A j i) (B j i))))) (λ k. ap pos (whole k))

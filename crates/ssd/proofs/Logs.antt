@@ -10,8 +10,8 @@ use Rattle.evc.specs.Tests.{first, reply, outside, logSizes}
 use Rattle.evc.specs.Planes.{Block}
 use Rattle.evc.specs.Differences.{difference, ssdTotal}
 use Rattle.evc.specs.Calls.{compareTests, sampleTests, ssdReply}
-use Rattle.planes.specs.Blocks.{rest}
-use Rattle.planes.proofs.Replies.{at-size, at-depth, at-area, at-second, at-rest}
+use Rattle.plane_tests.specs.Blocks.{rest}
+use Rattle.plane_tests.proofs.Replies.{at-size, at-depth, at-area, at-second, at-rest}
 
 module _ (logw logh depth : ℕ) (A B : ℕ → ℕ → Block) where
   -- the promised answer

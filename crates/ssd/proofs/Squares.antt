@@ -8,7 +8,7 @@ use lib.Pow.{pow-pos, pow-mono, pow-add, shr-lt}
 use mir.Syntax.{w16}
 use Rattle.integers.proofs.Bits.{one-shl}
 use Rattle.integers.proofs.Parts.{abs-dif-le}
-use Rattle.compare.specs.Totals.{apart}
+use Rattle.block_rows.specs.Totals.{apart}
 use Rattle.ssd.specs.Squares.{squared, squaredLow}
 
 -- the mask that the code makes keeps the last bits

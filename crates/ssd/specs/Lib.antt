@@ -1,2 +1,2 @@
--- What the contracts of this crate's helpers cite, beyond document 01's own definitions (evc/specs) and those of planes and compare.
+-- What the contracts of this crate's helpers cite, beyond document 01's own definitions (evc/specs) and those of plane_tests and block_rows.
 pub mod Squares

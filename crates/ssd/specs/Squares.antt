@@ -1,6 +1,6 @@
 -- What SSD adds up: squared differences. Cited by the contracts of src/rows.rt, src/blocks.rt and src/edges.rt. Assumes nothing.
 use Prim.Native.Nat.{ℕ, _*_, _-_, _/_, _%_, _^_}
-use Rattle.compare.specs.Totals.{apart}
+use Rattle.block_rows.specs.Totals.{apart}
 
 -- how far two samples are apart, squared and divided by 2^shift
 unfoldable pub squared : ℕ → ℕ → ℕ → ℕ

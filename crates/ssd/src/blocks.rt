@@ -3,11 +3,11 @@
 // Differs from the Rust in: the common widths are literals, for which compilers write straight vector code.
 ghost use Prim.Native.Nat.{_≤_};
 ghost use lib.ListN.{length};
-ghost use Rattle.planes.specs.Blocks.{TwoBlocks, cell};
-ghost use Rattle.compare.specs.Totals.{BlocksTold};
+ghost use Rattle.plane_tests.specs.Blocks.{TwoBlocks, cell};
+ghost use Rattle.block_rows.specs.Totals.{BlocksTotalled};
 ghost use Rattle.ssd.specs.Squares.{squaredLow};
 use crate::rows::ssd_row;
-use compare::Totals;
+use block_rows::Totals;
 
 fn ssd_rows(
     a: &[u16],
@@ -22,7 +22,7 @@ fn ssd_rows(
 ) -> Totals
     requires { ⌜ TwoBlocks w h (length (now a)) «a_at» «a_stride» (length (now b)) «b_at» «b_stride» ⌝ }
     requires { ⌜ (8 ≤ depth) × (depth ≤ 14) ⌝ }
-    ensures { λ r. ⌜ BlocksTold (squaredLow depth) w h (cell 0 (now (a .entry)) «a_at» «a_stride») (cell 0 (now (b .entry)) «b_at» «b_stride») (r .sum) (r .any) ⌝ }
+    ensures { λ r. ⌜ BlocksTotalled (squaredLow depth) w h (cell 0 (now (a .entry)) «a_at» «a_stride») (cell 0 (now (b .entry)) «b_at» «b_stride») (r .sum) (r .any) ⌝ }
 {
     let mut sum: u64 = 0;
     let mut any: u16 = 0;
@@ -52,7 +52,7 @@ pub(crate) fn ssd_block(
 ) -> Totals
     requires { ⌜ TwoBlocks w h (length (now a)) «a_at» «a_stride» (length (now b)) «b_at» «b_stride» ⌝ }
     requires { ⌜ (8 ≤ depth) × (depth ≤ 14) ⌝ }
-    ensures { λ r. ⌜ BlocksTold (squaredLow depth) w h (cell 0 (now (a .entry)) «a_at» «a_stride») (cell 0 (now (b .entry)) «b_at» «b_stride») (r .sum) (r .any) ⌝ }
+    ensures { λ r. ⌜ BlocksTotalled (squaredLow depth) w h (cell 0 (now (a .entry)) «a_at» «a_stride») (cell 0 (now (b .entry)) «b_at» «b_stride») (r .sum) (r .any) ⌝ }
 {
     if w == 4 {
         if h == 4 {

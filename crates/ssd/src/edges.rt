@@ -5,22 +5,22 @@ ghost use lib.Bits.{bitOr};
 ghost use lib.IntN.{pos, _+ℤ_};
 ghost use lib.ListN.{length, getD};
 ghost use Rattle.evc.specs.Planes.{edge};
-ghost use Rattle.compare.specs.Totals.{Told, BlocksTold};
-ghost use Rattle.compare.specs.Edges.{EdgesIn, edgeCell};
+ghost use Rattle.block_rows.specs.Totals.{Totalled, BlocksTotalled};
+ghost use Rattle.block_rows.specs.Edges.{EdgesIn, edgeCell};
 ghost use Rattle.ssd.specs.Squares.{squaredLow};
 use crate::rows::ssd_row;
-use compare::Totals;
+use block_rows::Totals;
 
 // Two rows that are read at the columns from x on.
 fn edge_row(a: &[u16], b: &[u16], x: i16, w: usize, depth: u8) -> Totals
     requires { ⌜ w ≤ 64 ⌝ }
     requires { ⌜ (8 ≤ depth) × (depth ≤ 14) ⌝ }
-    ensures { λ r. ⌜ Told w (λ i. squaredLow depth (getD (now (a .entry)) (edge (x +ℤ pos i)) 0) (getD (now (b .entry)) (edge (x +ℤ pos i)) 0)) (λ i. bitOr (getD (now (a .entry)) (edge (x +ℤ pos i)) 0) (getD (now (b .entry)) (edge (x +ℤ pos i)) 0)) (r .sum) (r .any) ⌝ }
+    ensures { λ r. ⌜ Totalled w (λ i. squaredLow depth (getD (now (a .entry)) (edge (x +ℤ pos i)) 0) (getD (now (b .entry)) (edge (x +ℤ pos i)) 0)) (λ i. bitOr (getD (now (a .entry)) (edge (x +ℤ pos i)) 0) (getD (now (b .entry)) (edge (x +ℤ pos i)) 0)) (r .sum) (r .any) ⌝ }
 {
     let mut one = [0u16; 64];
     let mut two = [0u16; 64];
-    compare::edge_row(a, x, &mut one[..w]);
-    compare::edge_row(b, x, &mut two[..w]);
+    block_rows::edge_row(a, x, &mut one[..w]);
+    block_rows::edge_row(b, x, &mut two[..w]);
     ssd_row(&one[..w], &two[..w], w, depth)
 }
 
@@ -39,12 +39,12 @@ fn edge_rows(
     requires { ⌜ EdgesIn (length (now one)) stride1 x y w h ⌝ }
     requires { ⌜ EdgesIn (length (now two)) stride2 x y w h ⌝ }
     requires { ⌜ (8 ≤ depth) × (depth ≤ 14) ⌝ }
-    ensures { λ r. ⌜ BlocksTold (squaredLow depth) w h (edgeCell (now (one .entry)) stride1 x y) (edgeCell (now (two .entry)) stride2 x y) (r .sum) (r .any) ⌝ }
+    ensures { λ r. ⌜ BlocksTotalled (squaredLow depth) w h (edgeCell (now (one .entry)) stride1 x y) (edgeCell (now (two .entry)) stride2 x y) (r .sum) (r .any) ⌝ }
 {
     let mut sum: u64 = 0;
     let mut any: u16 = 0;
     for j in 0..h {
-        let row = compare::row_start(x, y, j as u16).row;
+        let row = block_rows::row_start(x, y, j as u16).row;
         let p = row * stride1;
         let q = row * stride2;
         let t = edge_row(&one[p..], &two[q..], x, w, depth);
@@ -69,12 +69,12 @@ pub(crate) fn total(
     requires { ⌜ EdgesIn (length (now one)) stride1 x y w h ⌝ }
     requires { ⌜ EdgesIn (length (now two)) stride2 x y w h ⌝ }
     requires { ⌜ (8 ≤ depth) × (depth ≤ 14) ⌝ }
-    ensures { λ r. ⌜ BlocksTold (squaredLow depth) w h (edgeCell (now (one .entry)) stride1 x y) (edgeCell (now (two .entry)) stride2 x y) (r .sum) (r .any) ⌝ }
+    ensures { λ r. ⌜ BlocksTotalled (squaredLow depth) w h (edgeCell (now (one .entry)) stride1 x y) (edgeCell (now (two .entry)) stride2 x y) (r .sum) (r .any) ⌝ }
 {
-    if compare::negative(x, y) {
+    if block_rows::negative(x, y) {
         return edge_rows(one, stride1, two, stride2, x, y, w, h, depth);
     }
-    let first = compare::row_start(x, y, 0);
+    let first = block_rows::row_start(x, y, 0);
     let row = first.row;
     let column = first.column;
     let p = row * stride1 + column;

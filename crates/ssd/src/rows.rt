@@ -4,9 +4,9 @@
 // becomes vector code. They are first cut to the depth's bits, which changes only what is refused.
 ghost use mathlib.Core.Path.{_≡_};
 ghost use Prim.Native.Nat.{_*_, _<_, _≤_};
-ghost use Rattle.compare.specs.Totals.{RowsTold, TwoRows, apart};
+ghost use Rattle.block_rows.specs.Totals.{RowsTotalled, TwoRows, apart};
 ghost use Rattle.ssd.specs.Squares.{squared, squaredLow};
-use compare::Totals;
+use block_rows::Totals;
 
 // The square of a difference of samples that were cut to 14 bits.
 fn square(p: u16, q: u16) -> u32
@@ -34,10 +34,10 @@ fn share(p: u16, q: u16, shift: u8, w: usize) -> u32
 pub(crate) fn ssd_row(a: &[u16], b: &[u16], w: usize, depth: u8) -> Totals
     requires { ⌜ TwoRows w (now a) (now b) ⌝ }
     requires { ⌜ (8 ≤ depth) × (depth ≤ 14) ⌝ }
-    ensures { λ r. ⌜ RowsTold (squaredLow depth) w (now (a .entry)) (now (b .entry)) (r .sum) (r .any) ⌝ }
+    ensures { λ r. ⌜ RowsTotalled (squaredLow depth) w (now (a .entry)) (now (b .entry)) (r .sum) (r .any) ⌝ }
 {
     let mask = (1u16 << depth) - 1;
-    let shift = marks::square_shift(depth);
+    let shift = sample_tests::square_shift(depth);
     let mut sum: u32 = 0;
     let mut any: u16 = 0;
     for i in 0..w {

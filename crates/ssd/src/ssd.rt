@@ -10,7 +10,7 @@ ghost use Rattle.evc.specs.declared.Refusal.the-variants as number;
 ghost use Rattle.evc.specs.Tests.{first, reply, _when_};
 ghost use Rattle.evc.specs.Calls.{ssd16b, ssd16i};
 ghost use Rattle.evc.specs.Planes.{planeOf};
-use compare::Totals;
+use block_rows::Totals;
 use evc::Refusal;
 use evc::SquaredDistortion;
 
@@ -40,18 +40,18 @@ pub fn evce_ssd_16b(
 ) -> SquaredDistortion
     ensures { λ r. ⌜ squaredReading r ≡ ssd16b (planeOf (now (org .entry)) width height stride) x y «log2_w» «log2_h» (now (cur .entry)) depth ⌝ }
 {
-    if planes::logs(log2_w, log2_h) {
+    if plane_tests::bad_logs(log2_w, log2_h) {
         return SquaredDistortion::Refused(Refusal::Size);
     }
     let w = 1usize << log2_w;
     let h = 1usize << log2_h;
-    if planes::wrong_depth(depth) {
+    if plane_tests::bad_depth(depth) {
         return SquaredDistortion::Refused(Refusal::Depth);
     }
-    if planes::outside_plane(org.len(), width, height, stride, x, y, w, h) {
+    if plane_tests::outside_plane(org.len(), width, height, stride, x, y, w, h) {
         return SquaredDistortion::Refused(Refusal::Area);
     }
-    if planes::outside_plane(cur.len(), w, h, w, 0, 0, w, h) {
+    if plane_tests::outside_plane(cur.len(), w, h, w, 0, 0, w, h) {
         return SquaredDistortion::Refused(Refusal::Area);
     }
     end(
@@ -77,18 +77,18 @@ pub fn evce_ssd_16i(
 ) -> SquaredDistortion
     ensures { λ r. ⌜ squaredReading r ≡ ssd16i (planeOf (now (one .entry)) width1 height1 stride1) (planeOf (now (two .entry)) width2 height2 stride2) x y «log2_w» «log2_h» depth ⌝ }
 {
-    if planes::logs(log2_w, log2_h) {
+    if plane_tests::bad_logs(log2_w, log2_h) {
         return SquaredDistortion::Refused(Refusal::Size);
     }
     let w = 1usize << log2_w;
     let h = 1usize << log2_h;
-    if planes::wrong_depth(depth) {
+    if plane_tests::bad_depth(depth) {
         return SquaredDistortion::Refused(Refusal::Depth);
     }
-    if planes::outside_edges(one.len(), width1, height1, stride1, x, y, w, h) {
+    if plane_tests::outside_edges(one.len(), width1, height1, stride1, x, y, w, h) {
         return SquaredDistortion::Refused(Refusal::Area);
     }
-    if planes::outside_edges(two.len(), width2, height2, stride2, x, y, w, h) {
+    if plane_tests::outside_edges(two.len(), width2, height2, stride2, x, y, w, h) {
         return SquaredDistortion::Refused(Refusal::Area);
     }
     end(

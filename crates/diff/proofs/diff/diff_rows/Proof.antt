@@ -1,4 +1,4 @@
--- `diff_rows` meets its contract. Assumes nothing.
+-- `diff::diff::diff_rows` meets its contract. Assumes nothing.
 use mathlib.Core.Path.{_≡_, sym, ap, _∙_}
 use mathlib.Core.List.{List}
 use Prim.Native.Nat.{ℕ, _+_, _*_, _-_, _≤_}
@@ -10,7 +10,7 @@ use Rattle.integers.specs.Lists.{tab}
 use Rattle.integers.proofs.Written.{tab-ext, grid-at}
 use Rattle.integers.proofs.Grid.{Wrote, wrote-start, wrote-row, wrote-end, wrote-long, row-room, row-long}
 use Rattle.evc.specs.Differences.{diffAt}
-use Rattle.planes.specs.Blocks.{cell}
+use Rattle.plane_tests.specs.Blocks.{cell}
 use Rattle.diff.specs.Small.{SmallRow, apartFrom}
 use Rattle.diff.proofs.Tested.{small-one, small-packed}
 use Rattle.diff.proofs.diff.diff_rows.Statement.{statement}

@@ -1,4 +1,4 @@
--- `evce_diff_16b` meets its contract: each refusal is the first broken test, and what is left is read alike. Assumes nothing.
+-- `diff::diff::evce_diff_16b` meets its contract: each refusal is the first broken test, and what is left is read alike. Assumes nothing.
 use mathlib.Core.Path.{_≡_, refl, sym, ap, _∙_}
 use mathlib.Core.Bool.{Bool, false, _||_}
 use Prim.Native.Nat.{ℕ, _+_, _*_, _-_, _^_, _≤_}
@@ -8,14 +8,14 @@ use borrow.Author.Needs.{needs}
 use borrow.Author.Tests.{ltb-false}
 use lib.Dec.{ltb}
 use lib.ListN.{length}
-use Rattle.order.proofs.Tests.{neither-left, neither-right}
+use Rattle.integers.proofs.Bools.{neither-left, neither-right}
 use Rattle.evc.specs.Tests.{outside}
 use Rattle.evc.specs.Planes.{Block, inPlane, inPacked, planeOf}
 use Rattle.evc.proofs.Tests.{outside-no}
-use Rattle.planes.specs.Areas.{outsidePlane}
-use Rattle.planes.specs.Blocks.{TwoBlocks}
-use Rattle.planes.proofs.Planes.{is-inside, rows-inside, plane-alike}
-use Rattle.planes.proofs.SmallSides.{logs-small, side-small, shifted, shifted-is}
+use Rattle.plane_tests.specs.Areas.{outsidePlane}
+use Rattle.plane_tests.specs.Blocks.{TwoBlocks}
+use Rattle.plane_tests.proofs.Planes.{is-inside, rows-inside, plane-alike}
+use Rattle.plane_tests.proofs.SmallSides.{logs-small, side-small, shifted, shifted-is}
 use Rattle.diff.proofs.Differing.{differed-alike, diff-size, diff-depth, diff-area, diff-rest}
 use Rattle.diff.proofs.Tested.{areas-found}
 use Rattle.diff.proofs.diff.evce_diff_16b.Statement.{statement}
@@ -30,18 +30,18 @@ B c w h = let a = c .before .before .args in inPacked (a .cur .now) w h (a .dept
 
 -- what each test that was left says
 sized : (c : tie.Else1) → let a = c .before .before .before .before .args in ltb 6 (a .log2-w) || ltb 6 (a .log2-h) ≡ false
-sized c = sym (c .before .logs .ensures) ∙ c .if1 .left
+sized c = sym (c .before .bad-logs .ensures) ∙ c .if1 .left
 
 deep : (c : tie.Else2) → outside 8 14 (c .before .before .before .before .before .before .args .depth) ≡ false
-deep c = sym (c .before .wrong-depth .ensures) ∙ c .if2 .left
+deep c = sym (c .before .bad-depth .ensures) ∙ c .if2 .left
 
-logs-requires : tie.Need-logs-requires
-logs-requires c κs = search needs
+bad-logs-requires : tie.Need-bad-logs-requires
+bad-logs-requires c κs = search needs
 
 returns : tie.Need-returns
 returns c =
     let a = c .before .before .before .before .args in
-    diff-size (a .log2-w) (a .log2-h) (a .depth) (A (c .before .before)) (B (c .before .before)) (a .diff .now) (sym (c .before .logs .ensures) ∙ c .if1 .taken)
+    diff-size (a .log2-w) (a .log2-h) (a .depth) (A (c .before .before)) (B (c .before .before)) (a .diff .now) (sym (c .before .bad-logs .ensures) ∙ c .if1 .taken)
 
 -- the sides
 wide : (c : tie.Else1) → let a = c .before .before .before .before .args in shifted (a .log2-w) ≡ 2 ^ a .log2-w
@@ -56,15 +56,15 @@ shl-w c = let a = c .before .before .before .before .args in omega (arith, logs-
 shl-h : tie.Need-shl-h
 shl-h c = let a = c .before .before .before .before .args in omega (arith, logs-small (a .log2-w) (a .log2-h) (sized c) .1)
 
-wrong-depth-requires : tie.Need-wrong-depth-requires
-wrong-depth-requires c κs = search needs
+bad-depth-requires : tie.Need-bad-depth-requires
+bad-depth-requires c κs = search needs
 
 returns-2 : tie.Need-returns-2
 returns-2 c =
     let s = c .before .before in
     let a = s .before .before .before .before .args in
     diff-depth (a .log2-w) (a .log2-h) (a .depth) (A (s .before .before)) (B (s .before .before)) (a .diff .now) (shifted (a .log2-w))
-    (shifted (a .log2-h)) (wide s) (high s) (sized s) (sym (c .before .wrong-depth .ensures) ∙ c .if2 .taken)
+    (shifted (a .log2-h)) (wide s) (high s) (sized s) (sym (c .before .bad-depth .ensures) ∙ c .if2 .taken)
 
 -- the sides are small
 small :
@@ -172,11 +172,11 @@ pub evce-diff-16b-spec : {M : Type 1} → statement M
 evce-diff-16b-spec =
     tie.close
     (tie.spec
-    logs-requires
+    bad-logs-requires
     returns
     shl-w
     shl-h
-    wrong-depth-requires
+    bad-depth-requires
     returns-2
     mul-n
     outside-plane-requires

@@ -1,4 +1,4 @@
--- `of_four` meets its contract. Assumes nothing.
+-- `diff::diff::of_four` meets its contract. Assumes nothing.
 use mathlib.Core.Path.{refl}
 use borrow.Author.Needs.{needs}
 use Rattle.diff.proofs.Tested.{sides-asked, sides-left}

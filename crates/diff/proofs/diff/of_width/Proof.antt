@@ -1,4 +1,4 @@
--- `of_width` meets its contract: what is written was tested. Assumes nothing.
+-- `diff::diff::of_width` meets its contract: what is written was tested. Assumes nothing.
 use mathlib.Core.Path.{_≡_, refl, sym, ap, _∙_}
 use mathlib.Core.Bool.{Bool, true, false}
 use mathlib.Core.List.{[], _∷_}
@@ -13,8 +13,8 @@ use Rattle.integers.proofs.Bits.{div-some, div-none}
 use Rattle.evc.specs.Tests.{_when_, first}
 use Rattle.evc.specs.Calls.{sampleTests}
 use Rattle.evc.proofs.Marks.{below-all}
-use Rattle.planes.specs.Blocks.{cell, strided}
-use Rattle.planes.proofs.Replies.{marked-first}
+use Rattle.plane_tests.specs.Blocks.{cell, strided}
+use Rattle.plane_tests.proofs.Replies.{marked-first}
 use Rattle.diff.specs.Small.{SmallBlocks, apartFrom}
 use Rattle.diff.proofs.diff.of_width.Statement.{statement}
 use Rattle.diff.proofs.diff.of_width.Tie as tie

@@ -1,4 +1,4 @@
--- `any_row` meets its contract. Assumes nothing.
+-- `diff::rows::any_row` meets its contract. Assumes nothing.
 use mathlib.Core.Path.{refl}
 use Prim.Native.Nat.{_+_, _-_}
 use native.Mathlib.Omega.{arith}

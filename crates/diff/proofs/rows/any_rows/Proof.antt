@@ -1,4 +1,4 @@
--- `any_rows` meets its contract. Assumes nothing.
+-- `diff::rows::any_rows` meets its contract. Assumes nothing.
 use mathlib.Core.Path.{_≡_, sym, ap, _∙_}
 use mathlib.Core.List.{List}
 use Prim.Native.Nat.{ℕ, _+_, _-_, _*_}
@@ -8,8 +8,8 @@ use lib.Bits.{bitOr}
 use lib.ListN.{getD}
 use Rattle.integers.specs.Or.{ofOr, orN}
 use Rattle.integers.proofs.Loop.{Summed, summed-start, summed-step, summed-end}
-use Rattle.planes.specs.Blocks.{cell}
-use Rattle.planes.proofs.Planes.{in-one, in-two}
+use Rattle.plane_tests.specs.Blocks.{cell}
+use Rattle.plane_tests.proofs.Planes.{in-one, in-two}
 use Rattle.diff.proofs.rows.any_rows.Statement.{statement}
 use Rattle.diff.proofs.rows.any_rows.Tie as tie
 

@@ -1,4 +1,4 @@
--- `dquant::evc_dquant` meets its contract: each return by the tests that led there. Assumes nothing.
+-- `dquant::dquant::evc_dquant` meets its contract: each return by the tests that led there. Assumes nothing.
 use borrow.Author.Needs.{needs}
 use borrow.Author.Tests.{ltb-false, lt-ltb, le-ltb}
 use mathlib.Core.Path.{_≡_, refl, sym}
@@ -14,7 +14,7 @@ use mir.Syntax.{w64}
 use mir.Facts.{toZ-ofZ}
 use Rattle.integers.proofs.Bits.{one-shl}
 use Rattle.order.specs.Jobs.{ifAccepted}
-use Rattle.order.proofs.Tests.{or-neither}
+use Rattle.integers.proofs.Bools.{or-neither}
 use Rattle.evc.specs.declared.Refusal.the-variants.{Size, Shift, Area}
 use Rattle.evc.specs.Tests.{Test, _when_, first, samplesOf}
 use Rattle.evc.specs.Dequantizer.{dquantTests, dquantNumber, dquantExit}

@@ -1,96 +1,87 @@
--- `itx::stage_one::itxb0` meets its contract: by its lines where the guard holds. Assumes nothing.
+-- `itx::stage_one::itxb0` meets its contract: a small size by `itxb0_small`, or by what it does not do. Assumes nothing.
 use borrow.Author.Needs.{needs}
-use mathlib.Core.Path.{_≡_, sym, _∙_}
-use mathlib.Core.Bool.{true}
+use mathlib.Core.Path.{_≡_, sym, subst, _∙_}
+use mathlib.Core.Bool.{false}
 use mathlib.Core.List.{List}
-use Prim.Native.Nat.{ℕ, _*_, _^_, _%_}
-use native.Mathlib.Omega.{arith}
+use Prim.Native.Nat.{ℕ}
 use lib.ListN.{length}
 use lib.IntN.{ℤ}
-use Rattle.integers.specs.Lists.{written}
-use Rattle.evc.specs.Table.{tm}
-use Rattle.evc.specs.Stages.{stageOneAt, stageTwoNumber}
-use Rattle.halving.specs.Lines.{Rooms}
-use Rattle.halving.specs.Own.{own, Call, ownOne, doneOne}
-use Rattle.halving.proofs.Lines.{sized-rooms, sized-end}
-use Rattle.halving.proofs.Own.{call, call-rooms, one-did, one-left}
+use Rattle.evc.specs.Answers.{answerNumber}
+use Rattle.evc.specs.Stages.{stageOneNumber, itxb0Exit}
+use Rattle.itx_halving.specs.Taken.{takesOne}
+use Rattle.itx_halving.proofs.Nobody.{did, not-taken-is, unchanged, not-small}
 use Rattle.itx.proofs.stage_one.itxb0.Statement.{statement}
 use Rattle.itx.proofs.stage_one.itxb0.Tie as tie
 
--- where the guard has let the call pass
-module _ (c : tie.Then1) where
-  abbrev s : tie.Start
-  s = c .before .before
+-- the refusal number, and what the stage leaves, by the output
+abbrev number : tie.Start → List ℤ → ℕ
+number s d = stageOneNumber (length (s .args .src .now)) (length d) (s .args .log2-size) (s .args .log2-line)
 
-  guard : own 4 6 0 (s .args .log2-size) (s .args .log2-line) (stageTwoNumber (length (s .args .src .now)) (length (s .args .dst .now)) (s .args .log2-size) (s .args .log2-line) 0) ≡ true
-  guard = sym (c .before .mine .ensures) ∙ c .if1 .taken
+abbrev exit : tie.Start → List ℤ → List ℤ
+exit s d = itxb0Exit (s .args .log2-size) (s .args .log2-line) (s .args .src .now) d
 
-  known : Call 4 6 0 (length (s .args .src .now)) (length (s .args .dst .now)) (s .args .log2-size) (s .args .log2-line) 0
-  known = call guard
+-- where `itxb0_small` left the call alone
+left : (c : tie.Else2) → c .before .before .itxb0 .last .1 .0 ≡ c .before .before .before .before .before .args .dst .now
+left c = let s = c .before .before .before .before .before in let k = c .before .before .itxb0 in unchanged 1 3 0 (s .args .log2-size) (s .args .log2-line) (number s) (exit s) (k .result) (s .args .dst .now) (k .ensures .0) (k .ensures .1) (c .if2 .left)
 
-  -- the number of lines, as the code has it
-  abbrev l : ℕ
-  l = (1 * 2 ^ s .args .log2-line) % 2 ^ 64
+large-requires : tie.Need-large-requires
+large-requires c κs = let s = c .before .before in not-small (s .args .log2-size) (s .args .log2-line) _ (c .before .if1 .taken)
 
-  room : (k : ℕ) → s .args .log2-size ≡ k → Rooms (s .args .src .now) (s .args .dst .now) (2 ^ k) l
-  room k e = sized-rooms (s .args .log2-size) k e (call-rooms known)
-
-  -- what the stage leaves, by the size
-  abbrev left : ℕ → ℕ → ℤ
-  left g = stageOneAt (tm (2 ^ g)) (2 ^ g) l (s .args .src .now)
-
-  done : (k : ℕ) {d : List ℤ} → s .args .log2-size ≡ k → d ≡ written (2 ^ k * l) (left k) (s .args .dst .now) → (true ≡ ownOne 4 6 0 (s .args .log2-size) (s .args .log2-line) (s .args .src .now) (s .args .dst .now)) × (d ≡ doneOne true (s .args .log2-size) (s .args .log2-line) (s .args .src .now) (s .args .dst .now))
-  done k e p = one-did 4 6 0 (s .args .log2-size) (s .args .log2-line) (s .args .src .now) (s .args .dst .now) guard (sized-end left (s .args .dst .now) l (s .args .log2-size) k e p)
-
-mine-requires : tie.Need-mine-requires
-mine-requires c κs = search needs
-
-shl-l : tie.Need-shl-l
-shl-l c = omega (arith, known c .line-most)
-
-itx-pb16b0-requires : tie.Need-itx-pb16b0-requires
-itx-pb16b0-requires c κs = room (c .before .before) 4 (c .before .match .keys1)
-
-itx-pb32b0-requires : tie.Need-itx-pb32b0-requires
-itx-pb32b0-requires c κs = room (c .before .before) 5 (c .before .match .keys2)
-
-itx-pb64b0-requires : tie.Need-itx-pb64b0-requires
-itx-pb64b0-requires c κs = let d = c .before .before in room d 6 (omega (arith, known d .size-least, known d .size-most))
+by-value-requires : tie.Need-by-value-requires
+by-value-requires c κs = search needs
 
 same-length : tie.Need-same-length
 same-length c = search needs
 
 returns : tie.Need-returns
-returns c = done (c .before .before .before .before) 4 (c .before .before .before .match .keys1) (c .before .itx-pb16b0 .ensures)
+returns c = search needs
+
+itxb0-requires : tie.Need-itxb0-requires
+itxb0-requires c κs = search needs
 
 same-length-2 : tie.Need-same-length-2
 same-length-2 c = search needs
 
 returns-2 : tie.Need-returns-2
-returns-2 c = done (c .before .before .before .before) 5 (c .before .before .before .match .keys2) (c .before .itx-pb32b0 .ensures)
+returns-2 c =
+    let s = c .before .before .before .before .before in
+    let k = c .before .before .itxb0 in
+    did 1 3 0 (s .args .log2-size) (s .args .log2-line) (number s) (exit s) (k .result) (s .args .dst .now) (k .ensures .0) (k .ensures .1) (c .if2 .taken)
+
+large-requires-2 : tie.Need-large-requires-2
+large-requires-2 c κs =
+    let e = c .before in
+    let s = e .before .before .before .before .before in
+    let k = e .before .before .itxb0 in
+    subst (λ (d : List ℤ). takesOne 1 3 0 (s .args .log2-size) (s .args .log2-line) (s .args .src .now) d ≡ false) (sym (left e))
+    (not-taken-is 1 3 0 (s .args .log2-size) (s .args .log2-line) (number s) (exit s) (k .result) (s .args .dst .now) (k .ensures .0) (k .ensures .1) (e .if2 .left))
+
+by-value-requires-2 : tie.Need-by-value-requires-2
+by-value-requires-2 c κs = search needs
 
 same-length-3 : tie.Need-same-length-3
 same-length-3 c = search needs
 
 returns-3 : tie.Need-returns-3
-returns-3 c = let d = c .before .before .before .before in done d 6 (omega (arith, known d .size-least, known d .size-most)) (c .before .itx-pb64b0 .ensures)
-
-returns-4 : tie.Need-returns-4
-returns-4 c = let s = c .before .before in one-left 4 6 0 (s .args .log2-size) (s .args .log2-line) (s .args .src .now) (s .args .dst .now) (sym (c .before .mine .ensures) ∙ c .if1 .left)
+returns-3 c =
+    let k = c .before .before .large2 in
+    let e = c .before .before .before .before in
+    let s = e .before .before .before .before .before in
+    subst (λ (d : List ℤ). (answerNumber (c .by-value2 .result) ≡ number s d) × (k .last .1 .0 ≡ exit s d)) (left e)
+    (c .by-value2 .ensures ∙ k .ensures .0, k .ensures .1)
 
 pub itxb0-spec : {M : Type 1} → statement M
 itxb0-spec =
     tie.close
     (tie.spec
-    mine-requires
-    shl-l
-    itx-pb16b0-requires
-    itx-pb32b0-requires
-    itx-pb64b0-requires
+    large-requires
+    by-value-requires
     same-length
     returns
+    itxb0-requires
     same-length-2
     returns-2
+    large-requires-2
+    by-value-requires-2
     same-length-3
-    returns-3
-    returns-4)
+    returns-3)

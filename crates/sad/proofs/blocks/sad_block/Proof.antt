@@ -1,8 +1,8 @@
--- `sad_block` meets its contract. Assumes nothing.
+-- `sad::blocks::sad_block` meets its contract. Assumes nothing.
 use mathlib.Core.Path.{subst₂}
 use lib.ListN.{length}
-use Rattle.planes.specs.Blocks.{TwoBlocks}
-use Rattle.compare.proofs.Cells.{compared-at, compared-four}
+use Rattle.plane_tests.specs.Blocks.{TwoBlocks}
+use Rattle.block_rows.proofs.Cells.{compared-at, compared-four}
 use borrow.Author.Needs.{needs}
 use Rattle.sad.proofs.blocks.sad_block.Statement.{statement}
 use Rattle.sad.proofs.blocks.sad_block.Tie as tie

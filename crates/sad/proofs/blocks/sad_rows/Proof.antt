@@ -1,16 +1,16 @@
--- `sad_rows` meets its contract. Assumes nothing.
+-- `sad::blocks::sad_rows` meets its contract. Assumes nothing.
 use Prim.Native.Nat.{ℕ, _+_, _-_, _*_, _≤_}
 use native.Mathlib.Omega.{arith}
 use lib.Bits.{bitOr}
 use lib.ListN.{length}
 use Rattle.integers.specs.Sum.{sumN}
 use Rattle.integers.specs.Or.{orN}
-use Rattle.planes.specs.Blocks.{cell}
-use Rattle.planes.proofs.Planes.{in-one, in-two}
-use Rattle.compare.specs.Totals.{Told, apart}
-use Rattle.compare.proofs.Samples.{apart-le}
-use Rattle.compare.proofs.Running.{Running, running-start, running-step, running-end, running-next}
-use Rattle.compare.proofs.Cells.{row-part, two-rows, told-rows, row-most}
+use Rattle.plane_tests.specs.Blocks.{cell}
+use Rattle.plane_tests.proofs.Planes.{in-one, in-two}
+use Rattle.block_rows.specs.Totals.{Totalled, apart}
+use Rattle.block_rows.proofs.Samples.{apart-le}
+use Rattle.block_rows.proofs.Running.{Running, running-start, running-step, running-end, running-next}
+use Rattle.block_rows.proofs.Cells.{row-part, two-rows, totalled-rows, row-most}
 use Rattle.sad.proofs.blocks.sad_rows.Statement.{statement}
 use Rattle.sad.proofs.blocks.sad_rows.Tie as tie
 
@@ -86,12 +86,12 @@ told :
     (c : tie.After-sad-row Inv-loop μ-loop) →
     let a = c .before .before .before .before .before .before .before .args in
     let j = c .before .before .before .before .loop .j in
-    Told (a .w) (λ i. apart (cell 0 (a .a .now) (a .a-at) (a .a-stride) j i) (cell 0 (a .b .now) (a .b-at) (a .b-stride) j i))
+    Totalled (a .w) (λ i. apart (cell 0 (a .a .now) (a .a-at) (a .a-stride) j i) (cell 0 (a .b .now) (a .b-at) (a .b-stride) j i))
     (λ i. bitOr (cell 0 (a .a .now) (a .a-at) (a .a-stride) j i) (cell 0 (a .b .now) (a .b-at) (a .b-stride) j i))
     (c .sad-row .result .sum) (c .sad-row .result .any)
 told c =
     let a = c .before .before .before .before .before .before .before .args in
-    told-rows apart bitOr 0 0 (a .a .now) (a .a-at) (a .a-stride) (a .b .now) (a .b-at) (a .b-stride) (c .before .before .before .before .loop .j) (a .w) _ _
+    totalled-rows apart bitOr 0 0 (a .a .now) (a .a-at) (a .a-stride) (a .b .now) (a .b-at) (a .b-stride) (c .before .before .before .before .loop .j) (a .w) _ _
     (row-part (a .a .now) (a .a-at) (a .a-stride) (c .before .before .before .before .loop .j) (a .w)) (row-part (a .b .now) (a .b-at) (a .b-stride) (c .before .before .before .before .loop .j) (a .w))
     (c .sad-row .ensures)
 

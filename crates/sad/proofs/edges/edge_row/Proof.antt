@@ -1,13 +1,13 @@
--- `edge_row` meets its contract. Assumes nothing.
+-- `sad::edges::edge_row` meets its contract. Assumes nothing.
 use mathlib.Core.Path.{sym, ap, _∙_}
 use lib.Bits.{bitOr}
 use lib.IntN.{ℤ, pos, _+ℤ_}
 use lib.ListN.{getD}
 use mir.Facts.{toZ-ofZ}
 use Rattle.evc.specs.Planes.{edge}
-use Rattle.compare.specs.Totals.{apart}
-use Rattle.compare.proofs.Cells.{told-ext}
-use Rattle.compare.proofs.Line.{line-room, line-long, line-length, line-at}
+use Rattle.block_rows.specs.Totals.{apart}
+use Rattle.block_rows.proofs.Cells.{totalled-ext}
+use Rattle.block_rows.proofs.Line.{line-room, line-long, line-length, line-at}
 use borrow.Author.Needs.{needs}
 use Rattle.sad.proofs.edges.edge_row.Statement.{statement}
 use Rattle.sad.proofs.edges.edge_row.Tie as tie
@@ -37,7 +37,7 @@ returns c =
     let s = c .before .before .before .before .before .before .before in
     let a = s .args in
     let e = toZ-ofZ (s .fits .x) in
-    told-ext (λ i. apart (getD (a .a .now) i 0) (getD (a .row .now) (edge (a .x +ℤ pos i)) 0)) (λ i. bitOr (getD (a .a .now) i 0) (getD (a .row .now) (edge (a .x +ℤ pos i)) 0))
+    totalled-ext (λ i. apart (getD (a .a .now) i 0) (getD (a .row .now) (edge (a .x +ℤ pos i)) 0)) (λ i. bitOr (getD (a .a .now) i 0) (getD (a .row .now) (edge (a .x +ℤ pos i)) 0))
     (c .sad-row .ensures)
     (λ i p.
     ap (apart (getD (a .a .now) i 0))

@@ -1,4 +1,4 @@
--- `edge_rows` meets its contract. Assumes nothing.
+-- `sad::edges::edge_rows` meets its contract. Assumes nothing.
 use mathlib.Core.Path.{_≡_, ap, ap₂, _∙_}
 use Prim.Native.Nat.{ℕ, _+_, _-_, _*_, _≤_, _<_}
 use native.Mathlib.Nat.{le-trans}
@@ -12,14 +12,14 @@ use mir.Facts.{toZ-ofZ}
 use Rattle.integers.specs.Sum.{sumN}
 use Rattle.integers.specs.Or.{orN}
 use Rattle.evc.specs.Planes.{edge}
-use Rattle.planes.specs.Blocks.{cell}
-use Rattle.planes.proofs.Planes.{row-in}
-use Rattle.compare.specs.Totals.{Told, BlocksTold, apart}
-use Rattle.compare.specs.Edges.{edgeCell}
-use Rattle.compare.proofs.Samples.{apart-le}
-use Rattle.compare.proofs.Running.{Running, running-start, running-step, running-end, running-next}
-use Rattle.compare.proofs.Cells.{part-length, part-at, told-ext, row-most}
-use Rattle.compare.proofs.AtEdges.{edge-at, of-bits}
+use Rattle.plane_tests.specs.Blocks.{cell}
+use Rattle.plane_tests.proofs.Planes.{row-in}
+use Rattle.block_rows.specs.Totals.{Totalled, BlocksTotalled, apart}
+use Rattle.block_rows.specs.Edges.{edgeCell}
+use Rattle.block_rows.proofs.Samples.{apart-le}
+use Rattle.block_rows.proofs.Running.{Running, running-start, running-step, running-end, running-next}
+use Rattle.block_rows.proofs.Cells.{part-length, part-at, totalled-ext, row-most}
+use Rattle.block_rows.proofs.AtEdges.{edge-at, of-bits}
 use Rattle.sad.proofs.edges.edge_rows.Statement.{statement}
 use Rattle.sad.proofs.edges.edge_rows.Tie as tie
 
@@ -109,7 +109,7 @@ told :
     let j = c .before .before .before .before .before .loop .j in
     let x = toZ w16 (ofZ w16 (a .mv-x)) in
     let y = toZ w16 (ofZ w16 (a .mv-y)) in
-    Told (a .w) (λ i. apart (cell 0 (a .org .now) (a .at) (a .stride) j i) (edgeCell (a .reference .now) (a .ref-stride) x y j i))
+    Totalled (a .w) (λ i. apart (cell 0 (a .org .now) (a .at) (a .stride) j i) (edgeCell (a .reference .now) (a .ref-stride) x y j i))
     (λ i. bitOr (cell 0 (a .org .now) (a .at) (a .stride) j i) (edgeCell (a .reference .now) (a .ref-stride) x y j i)) (c .edge-row .result .sum)
     (c .edge-row .result .any)
 told c =
@@ -118,7 +118,7 @@ told c =
     let x = toZ w16 (ofZ w16 (a .mv-x)) in
     let y = toZ w16 (ofZ w16 (a .mv-y)) in
     let e = ap (λ (n : ℕ). n * a .ref-stride) (c .before .before .before .row-start .ensures .0) in
-    told-ext (λ i. apart (cell 0 (a .org .now) (a .at) (a .stride) j i) (edgeCell (a .reference .now) (a .ref-stride) x y j i))
+    totalled-ext (λ i. apart (cell 0 (a .org .now) (a .at) (a .stride) j i) (edgeCell (a .reference .now) (a .ref-stride) x y j i))
     (λ i. bitOr (cell 0 (a .org .now) (a .at) (a .stride) j i) (edgeCell (a .reference .now) (a .ref-stride) x y j i)) (c .edge-row .ensures)
     (λ i p. ap₂ apart (part-at (a .org .now) (a .at) (a .stride) j (a .w) 0 i p) (edge-at (a .reference .now) (a .ref-stride) x y _ j i e))
     (λ i p. ap₂ bitOr (part-at (a .org .now) (a .at) (a .stride) j (a .w) 0 i p) (edge-at (a .reference .now) (a .ref-stride) x y _ j i e))
@@ -160,7 +160,7 @@ returns : tie.Need-returns Inv-loop μ-loop
 returns c =
     let s = c .before .before .before .before in
     let a = s .args in
-    of-bits (λ x y. BlocksTold apart (a .w) (a .h) (cell 0 (a .org .now) (a .at) (a .stride)) (edgeCell (a .reference .now) (a .ref-stride) x y) (c .before .loop .sum) (c .before .loop .any))
+    of-bits (λ x y. BlocksTotalled apart (a .w) (a .h) (cell 0 (a .org .now) (a .at) (a .stride)) (edgeCell (a .reference .now) (a .ref-stride) x y) (c .before .loop .sum) (c .before .loop .any))
     (s .fits .mv-x) (s .fits .mv-y) (running-end (c .before .loop .inv) (omega arith))
 
 pub edge-rows-spec : {M : Type 1} → statement M

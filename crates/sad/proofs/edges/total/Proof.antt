@@ -1,4 +1,4 @@
--- `total` meets its contract. Assumes nothing.
+-- `sad::edges::total` meets its contract. Assumes nothing.
 use mathlib.Core.Path.{_≡_, sym, ap, ap₂, _∙_}
 use mathlib.Core.Bool.{_||_}
 use Prim.Native.Nat.{ℕ, _+_, _*_, _<_}
@@ -9,11 +9,11 @@ use lib.ListN.{length}
 use lib.Signed.{ltZ}
 use mir.Facts.{toZ-ofZ}
 use Rattle.evc.specs.Planes.{edge}
-use Rattle.planes.specs.Blocks.{cell}
-use Rattle.compare.specs.Totals.{BlocksTold, apart}
-use Rattle.compare.specs.Edges.{edgeCell}
-use Rattle.compare.proofs.Cells.{compared-ext}
-use Rattle.compare.proofs.AtEdges.{of-bits, Plain, is-plain, plain-at, plain-inside}
+use Rattle.plane_tests.specs.Blocks.{cell}
+use Rattle.block_rows.specs.Totals.{BlocksTotalled, apart}
+use Rattle.block_rows.specs.Edges.{edgeCell}
+use Rattle.block_rows.proofs.Cells.{compared-ext}
+use Rattle.block_rows.proofs.AtEdges.{of-bits, Plain, is-plain, plain-at, plain-inside}
 use borrow.Author.Needs.{needs}
 use Rattle.sad.proofs.edges.total.Statement.{statement}
 use Rattle.sad.proofs.edges.total.Tie as tie
@@ -50,7 +50,7 @@ returns : tie.Need-returns
 returns c =
     let s = c .before .before .before .before .before in
     let a = s .args in
-    of-bits (λ x y. BlocksTold apart (a .w) (a .h) (cell 0 (a .org .now) (a .at) (a .stride)) (edgeCell (a .reference .now) (a .ref-stride) x y) (c .edge-rows .result .sum) (c .edge-rows .result .any))
+    of-bits (λ x y. BlocksTotalled apart (a .w) (a .h) (cell 0 (a .org .now) (a .at) (a .stride)) (edgeCell (a .reference .now) (a .ref-stride) x y) (c .edge-rows .result .sum) (c .edge-rows .result .any))
     (s .fits .mv-x) (s .fits .mv-y) (c .edge-rows .ensures)
 
 row-start-requires : tie.Need-row-start-requires

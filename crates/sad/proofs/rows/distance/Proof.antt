@@ -1,7 +1,7 @@
--- `distance` meets its contract. Assumes nothing.
+-- `sad::rows::distance` meets its contract. Assumes nothing.
 use native.Mathlib.Omega.{arith}
 use Rattle.integers.proofs.Parts.{abs-dif}
-use Rattle.compare.specs.Totals.{apart}
+use Rattle.block_rows.specs.Totals.{apart}
 use Rattle.sad.proofs.rows.distance.Statement.{statement}
 use Rattle.sad.proofs.rows.distance.Tie as tie
 

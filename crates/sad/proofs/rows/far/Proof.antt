@@ -1,4 +1,4 @@
--- `far` meets its contract. Assumes nothing.
+-- `sad::rows::far` meets its contract. Assumes nothing.
 use mathlib.Core.Path.{ap, _∙_, subst}
 use mathlib.Core.List.{[], _∷_}
 use Prim.Native.Nat.{ℕ}
@@ -8,10 +8,10 @@ use lib.Signed.{_≤ℤ_, _<ℤ_}
 use mir.Syntax.{w32}
 use Rattle.integers.proofs.Order.{<ℤ-≤ℤ}
 use Rattle.integers.proofs.Bits.{lt-held, lt-failed}
-use Rattle.compare.proofs.Samples.{abs-minus}
+use Rattle.block_rows.proofs.Samples.{abs-minus}
 use Rattle.integers.proofs.Expr.{Ex, Known, env, nat, var, lit, sub, loc, fit, reads, to-unsigned}
 use Rattle.integers.proofs.Parts.{sub-nonneg}
-use Rattle.compare.specs.Totals.{apart}
+use Rattle.block_rows.specs.Totals.{apart}
 use borrow.Author.Needs.{needs}
 use Rattle.sad.proofs.rows.far.Statement.{statement}
 use Rattle.sad.proofs.rows.far.Tie as tie

@@ -1,13 +1,13 @@
--- `sad_row` meets its contract. Assumes nothing.
+-- `sad::rows::sad_row` meets its contract. Assumes nothing.
 use Prim.Native.Nat.{ℕ, _-_, _≤_}
 use native.Mathlib.Omega.{arith}
 use mathlib.Core.Path.{refl}
 use lib.Bits.{bitOr}
 use lib.ListN.{getD}
-use Rattle.compare.specs.Totals.{apart}
-use Rattle.compare.proofs.Samples.{apart-le}
-use Rattle.compare.proofs.Running.{Running, running-start, running-step, running-end, running-next}
-use Rattle.compare.proofs.Cells.{told-most}
+use Rattle.block_rows.specs.Totals.{apart}
+use Rattle.block_rows.proofs.Samples.{apart-le}
+use Rattle.block_rows.proofs.Running.{Running, running-start, running-step, running-end, running-next}
+use Rattle.block_rows.proofs.Cells.{totalled-most}
 use Rattle.sad.proofs.rows.sad_row.Statement.{statement}
 use Rattle.sad.proofs.rows.sad_row.Tie as tie
 
@@ -58,7 +58,7 @@ loop-again c = running-step (c .before .before .before .before .loop .inv) (omeg
 
 cast-all : tie.Need-cast-all Inv-loop μ-loop
 cast-all c =
-    omega (arith, told-most 65535 (running-end (c .before .loop .inv) (omega arith)) (c .before .before .before .before .pre .small) (λ i. most (c .before .before) i))
+    omega (arith, totalled-most 65535 (running-end (c .before .loop .inv) (omega arith)) (c .before .before .before .before .pre .small) (λ i. most (c .before .before) i))
 
 returns : tie.Need-returns Inv-loop μ-loop
 returns c = running-end (c .before .loop .inv) (omega arith)

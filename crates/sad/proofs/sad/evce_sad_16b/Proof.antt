@@ -1,4 +1,4 @@
--- `evce_sad_16b` meets its contract: each refusal is the first broken test, and what is left is read alike. Assumes nothing.
+-- `sad::sad::evce_sad_16b` meets its contract: each refusal is the first broken test, and what is left is read alike. Assumes nothing.
 use mathlib.Core.Path.{_≡_, refl, sym, ap, _∙_}
 use mathlib.Core.Bool.{false, _||_}
 use Prim.Native.Nat.{ℕ, _+_, _*_, _-_, _/_, _^_, _≤_}
@@ -6,28 +6,28 @@ use native.Mathlib.Omega.{arith}
 use borrow.Author.Needs.{needs}
 use lib.IntN.{pos, _+ℤ_}
 use lib.ListN.{length}
-use Rattle.order.proofs.Tests.{neither-left, neither-right}
+use Rattle.integers.proofs.Bools.{neither-left, neither-right}
 use Rattle.evc.specs.Tests.{outside}
 use Rattle.evc.specs.Planes.{edge}
 use Rattle.evc.proofs.Tests.{outside-no}
-use Rattle.planes.specs.Areas.{outsidePlane, outsideEdges}
-use Rattle.planes.specs.Blocks.{cell}
-use Rattle.planes.proofs.Planes.{is-inside, rows-inside, plane-alike}
-use Rattle.planes.proofs.Replies.{rest-alike}
-use Rattle.compare.specs.Edges.{edgeCell, AtEdges}
-use Rattle.compare.proofs.Sads.{sad-alike, sad-size, sad-depth, sad-area, sad-second, sad-rest}
-use Rattle.compare.proofs.AtEdges.{edges-in, edges-alike, as-bits, of-bits}
-use Rattle.compare.specs.Totals.{BlocksTold, apart}
-use Rattle.sad.proofs.Ends.{sad-told}
+use Rattle.plane_tests.specs.Areas.{outsidePlane, outsideEdges}
+use Rattle.plane_tests.specs.Blocks.{cell}
+use Rattle.plane_tests.proofs.Planes.{is-inside, rows-inside, plane-alike}
+use Rattle.plane_tests.proofs.Replies.{rest-alike}
+use Rattle.block_rows.specs.Edges.{edgeCell, AtEdges}
+use Rattle.block_rows.proofs.Sads.{sad-alike, sad-size, sad-depth, sad-area, sad-second, sad-rest}
+use Rattle.block_rows.proofs.AtEdges.{edges-in, edges-alike, as-bits, of-bits}
+use Rattle.block_rows.specs.Totals.{BlocksTotalled, apart}
+use Rattle.sad.proofs.Ends.{sad-totalled}
 use Rattle.sad.proofs.sad.evce_sad_16b.Statement.{statement}
 use Rattle.sad.proofs.sad.evce_sad_16b.Tie as tie
 
 -- what each test that was left says
 sized : (c : tie.Else1) → let a = c .before .before .before .before .args in outside 1 64 (a .w) || outside 1 64 (a .h) ≡ false
-sized c = sym (c .before .sides .ensures) ∙ c .if1 .left
+sized c = sym (c .before .bad-sides .ensures) ∙ c .if1 .left
 
 deep : (c : tie.Else2) → outside 8 14 (c .before .before .before .before .before .before .args .depth) ≡ false
-deep c = sym (c .before .wrong-depth .ensures) ∙ c .if2 .left
+deep c = sym (c .before .bad-depth .ensures) ∙ c .if2 .left
 
 one : (c : tie.Else3) → let a = c .before .before .before .before .before .before .before .before .args in outsidePlane (length (a .org .now)) (a .width) (a .height) (a .stride) (a .x) (a .y) (a .w) (a .h) ≡ false
 one c = sym (c .before .outside-plane .ensures) ∙ c .if3 .left
@@ -49,17 +49,17 @@ two :
     outsideEdges (length (a .reference .now)) (a .ref-width) (a .ref-height) (a .ref-stride) (a .mv-x) (a .mv-y) (a .w) (a .h) ≡ false
 two c = sym (farBits (c .before)) ∙ c .if4 .left
 
-sides-requires : tie.Need-sides-requires
-sides-requires c κs = search needs
+bad-sides-requires : tie.Need-bad-sides-requires
+bad-sides-requires c κs = search needs
 
 returns : tie.Need-returns
-returns c = sad-size _ _ _ _ _ (sym (c .before .sides .ensures) ∙ c .if1 .taken)
+returns c = sad-size _ _ _ _ _ (sym (c .before .bad-sides .ensures) ∙ c .if1 .taken)
 
-wrong-depth-requires : tie.Need-wrong-depth-requires
-wrong-depth-requires c κs = search needs
+bad-depth-requires : tie.Need-bad-depth-requires
+bad-depth-requires c κs = search needs
 
 returns-2 : tie.Need-returns-2
-returns-2 c = sad-depth _ _ _ _ _ (sized (c .before .before)) (sym (c .before .wrong-depth .ensures) ∙ c .if2 .taken)
+returns-2 c = sad-depth _ _ _ _ _ (sized (c .before .before)) (sym (c .before .bad-depth .ensures) ∙ c .if2 .taken)
 
 outside-plane-requires : tie.Need-outside-plane-requires
 outside-plane-requires c κs = search needs
@@ -113,14 +113,14 @@ sad-answer-requires c κs = search needs
 told :
     (c : tie.After-sad-answer) →
     let a = c .before .before .before .before .before .before .before .before .before .before .before .before .args in
-    BlocksTold apart (a .w) (a .h) (cell 0 (a .org .now) (a .y * a .stride + a .x) (a .stride)) (edgeCell (a .reference .now) (a .ref-stride) (a .mv-x) (a .mv-y))
+    BlocksTotalled apart (a .w) (a .h) (cell 0 (a .org .now) (a .y * a .stride + a .x) (a .stride)) (edgeCell (a .reference .now) (a .ref-stride) (a .mv-x) (a .mv-y))
     (c .before .total .result .sum) (c .before .total .result .any)
 told c =
     let s = c .before .before .before .before .before .before .before .before .before .before .before .before in
     let a = s .args in
     of-bits
     (λ x y.
-    BlocksTold apart (a .w) (a .h) (cell 0 (a .org .now) (a .y * a .stride + a .x) (a .stride)) (edgeCell (a .reference .now) (a .ref-stride) x y)
+    BlocksTotalled apart (a .w) (a .h) (cell 0 (a .org .now) (a .y * a .stride + a .x) (a .stride)) (edgeCell (a .reference .now) (a .ref-stride) x y)
     (c .before .total .result .sum) (c .before .total .result .any))
     (s .fits .mv-x) (s .fits .mv-y) (c .before .total .ensures)
 
@@ -142,7 +142,7 @@ returns-5 c =
     let q = edges-alike (a .reference .now) (a .ref-width) (a .ref-height) (a .ref-stride) (a .mv-x) (a .mv-y) (a .w) (a .h) (a .depth) in
     let b = ready (c .before .before) .two in
     c .sad-answer .ensures
-    ∙ sad-told (a .w) (a .h) (a .depth) (cell 0 (a .org .now) (a .y * a .stride + a .x) (a .stride)) (edgeCell (a .reference .now) (a .ref-stride) (a .mv-x) (a .mv-y))
+    ∙ sad-totalled (a .w) (a .h) (a .depth) (cell 0 (a .org .now) (a .y * a .stride + a .x) (a .stride)) (edgeCell (a .reference .now) (a .ref-stride) (a .mv-x) (a .mv-y))
     (outside-no 8 14 (a .depth) (deep (c .before .before .before .before .before .before))) (b .narrow) (b .low) (small c) (small-too c) (told c)
     ∙ rest-alike p q _ _ (ap (λ (n : ℕ). n / 2 ^ (a .depth - 8)) (sad-alike p q))
     ∙ sad-rest _ _ _ _ _ (sized (c .before .before .before .before .before .before .before .before)) (deep (c .before .before .before .before .before .before)) (one (c .before .before .before .before)) (two (c .before .before))
@@ -151,9 +151,9 @@ pub evce-sad-16b-spec : {M : Type 1} → statement M
 evce-sad-16b-spec =
     tie.close
     (tie.spec
-    sides-requires
+    bad-sides-requires
     returns
-    wrong-depth-requires
+    bad-depth-requires
     returns-2
     outside-plane-requires
     returns-3

@@ -1,28 +1,28 @@
--- `evce_sad_16i` meets its contract: each refusal is the first broken test, and what is left is read alike. Assumes nothing.
+-- `sad::sad::evce_sad_16i` meets its contract: each refusal is the first broken test, and what is left is read alike. Assumes nothing.
 use mathlib.Core.Path.{_≡_, refl, sym, ap, _∙_}
 use mathlib.Core.Bool.{false, _||_}
 use Prim.Native.Nat.{ℕ, _+_, _*_, _-_, _/_, _^_, _≤_}
 use native.Mathlib.Omega.{arith}
 use borrow.Author.Needs.{needs}
 use lib.ListN.{length}
-use Rattle.order.proofs.Tests.{neither-left, neither-right}
+use Rattle.integers.proofs.Bools.{neither-left, neither-right}
 use Rattle.evc.specs.Tests.{outside}
 use Rattle.evc.proofs.Tests.{outside-no}
-use Rattle.planes.specs.Areas.{outsidePlane}
-use Rattle.planes.specs.Blocks.{TwoBlocks, cell}
-use Rattle.planes.proofs.Planes.{is-inside, rows-inside, plane-alike}
-use Rattle.planes.proofs.Replies.{rest-alike}
-use Rattle.compare.proofs.Sads.{sad-alike, sad-size, sad-depth, sad-area, sad-second, sad-rest}
-use Rattle.sad.proofs.Ends.{sad-told}
+use Rattle.plane_tests.specs.Areas.{outsidePlane}
+use Rattle.plane_tests.specs.Blocks.{TwoBlocks, cell}
+use Rattle.plane_tests.proofs.Planes.{is-inside, rows-inside, plane-alike}
+use Rattle.plane_tests.proofs.Replies.{rest-alike}
+use Rattle.block_rows.proofs.Sads.{sad-alike, sad-size, sad-depth, sad-area, sad-second, sad-rest}
+use Rattle.sad.proofs.Ends.{sad-totalled}
 use Rattle.sad.proofs.sad.evce_sad_16i.Statement.{statement}
 use Rattle.sad.proofs.sad.evce_sad_16i.Tie as tie
 
 -- what each test that was left says
 sized : (c : tie.Else1) → let a = c .before .before .before .before .args in outside 1 64 (a .w) || outside 1 64 (a .h) ≡ false
-sized c = sym (c .before .sides .ensures) ∙ c .if1 .left
+sized c = sym (c .before .bad-sides .ensures) ∙ c .if1 .left
 
 deep : (c : tie.Else2) → outside 8 14 (c .before .before .before .before .before .before .args .depth) ≡ false
-deep c = sym (c .before .wrong-depth .ensures) ∙ c .if2 .left
+deep c = sym (c .before .bad-depth .ensures) ∙ c .if2 .left
 
 one : (c : tie.Else3) → let a = c .before .before .before .before .before .before .before .before .args in outsidePlane (length (a .org .now)) (a .width) (a .height) (a .stride) (a .x) (a .y) (a .w) (a .h) ≡ false
 one c = sym (c .before .outside-plane .ensures) ∙ c .if3 .left
@@ -30,17 +30,17 @@ one c = sym (c .before .outside-plane .ensures) ∙ c .if3 .left
 two : (c : tie.Else4) → let a = c .before .before .before .before .before .before .before .before .before .before .args in outsidePlane (length (a .pred .now)) (a .w) (a .h) (a .w) 0 0 (a .w) (a .h) ≡ false
 two c = sym (c .before .outside-plane2 .ensures) ∙ c .if4 .left
 
-sides-requires : tie.Need-sides-requires
-sides-requires c κs = search needs
+bad-sides-requires : tie.Need-bad-sides-requires
+bad-sides-requires c κs = search needs
 
 returns : tie.Need-returns
-returns c = sad-size _ _ _ _ _ (sym (c .before .sides .ensures) ∙ c .if1 .taken)
+returns c = sad-size _ _ _ _ _ (sym (c .before .bad-sides .ensures) ∙ c .if1 .taken)
 
-wrong-depth-requires : tie.Need-wrong-depth-requires
-wrong-depth-requires c κs = search needs
+bad-depth-requires : tie.Need-bad-depth-requires
+bad-depth-requires c κs = search needs
 
 returns-2 : tie.Need-returns-2
-returns-2 c = sad-depth _ _ _ _ _ (sized (c .before .before)) (sym (c .before .wrong-depth .ensures) ∙ c .if2 .taken)
+returns-2 c = sad-depth _ _ _ _ _ (sized (c .before .before)) (sym (c .before .bad-depth .ensures) ∙ c .if2 .taken)
 
 outside-plane-requires : tie.Need-outside-plane-requires
 outside-plane-requires c κs = search needs
@@ -104,7 +104,7 @@ returns-5 c =
     let q = plane-alike (a .pred .now) (a .w) (a .h) (a .w) 0 0 (a .w) (a .h) (a .depth) 0 (omega arith) in
     let b = blocks (c .before .before) in
     c .sad-answer .ensures
-    ∙ sad-told (a .w) (a .h) (a .depth) (cell 0 (a .org .now) (a .y * a .stride + a .x) (a .stride)) (cell 0 (a .pred .now) 0 (a .w))
+    ∙ sad-totalled (a .w) (a .h) (a .depth) (cell 0 (a .org .now) (a .y * a .stride + a .x) (a .stride)) (cell 0 (a .pred .now) 0 (a .w))
     (outside-no 8 14 (a .depth) (deep (c .before .before .before .before .before .before))) (b .narrow) (b .low) (small c) (small-too c) (c .before .sad-block .ensures)
     ∙ rest-alike p q _ _ (ap (λ (n : ℕ). n / 2 ^ (a .depth - 8)) (sad-alike p q))
     ∙ sad-rest _ _ _ _ _ (sized (c .before .before .before .before .before .before .before .before)) (deep (c .before .before .before .before .before .before)) (one (c .before .before .before .before)) (two (c .before .before))
@@ -113,9 +113,9 @@ pub evce-sad-16i-spec : {M : Type 1} → statement M
 evce-sad-16i-spec =
     tie.close
     (tie.spec
-    sides-requires
+    bad-sides-requires
     returns
-    wrong-depth-requires
+    bad-depth-requires
     returns-2
     outside-plane-requires
     returns-3

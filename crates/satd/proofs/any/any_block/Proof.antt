@@ -1,9 +1,9 @@
--- `any_block` meets its contract. Assumes nothing.
+-- `satd::any::any_block` meets its contract. Assumes nothing.
 use mathlib.Core.Path.{_≡_, sym, ap, subst, _∙_}
 use mathlib.Core.List.{List}
 use Prim.Native.Nat.{ℕ}
 use borrow.Author.Needs.{needs}
-use Rattle.planes.specs.Blocks.{TwoBlocks}
+use Rattle.plane_tests.specs.Blocks.{TwoBlocks}
 use Rattle.diff.specs.Small.{blocksMarks}
 use Rattle.satd.proofs.any.any_block.Statement.{statement}
 use Rattle.satd.proofs.any.any_block.Tie as tie

@@ -1,4 +1,4 @@
--- `diff_row` meets its contract. Assumes nothing.
+-- `satd::rows::diff_row` meets its contract. Assumes nothing.
 use mathlib.Core.Path.{sym, _∙_}
 use Prim.Native.Nat.{_+_, _-_, _≤_}
 use native.Mathlib.Omega.{arith}

@@ -1,4 +1,4 @@
--- `minus` meets its contract. Assumes nothing.
+-- `satd::rows::minus` meets its contract. Assumes nothing.
 use mathlib.Core.Path.{_≡_, ap₂, _∙_}
 use mathlib.Core.List.{[], _∷_}
 use Prim.Native.Nat.{ℕ, _<_}

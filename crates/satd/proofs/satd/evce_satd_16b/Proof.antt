@@ -1,4 +1,4 @@
--- `evce_satd_16b` meets its contract: each refusal is the first broken test, and what is left is read alike. Assumes nothing.
+-- `satd::satd::evce_satd_16b` meets its contract: each refusal is the first broken test, and what is left is read alike. Assumes nothing.
 use mathlib.Core.Path.{_≡_, refl, sym, ap, _∙_}
 use mathlib.Core.Bool.{false, _||_}
 use Prim.Native.Nat.{ℕ, _+_, _*_, _-_, _/_, _%_, _^_, _≤_}
@@ -7,14 +7,14 @@ use native.Mathlib.Omega.{arith}
 use borrow.Author.Needs.{needs}
 use lib.ListN.{length}
 use lib.Dec.{eqb, ltb}
-use Rattle.order.proofs.Tests.{neither-left, neither-right}
+use Rattle.integers.proofs.Bools.{neither-left, neither-right}
 use Rattle.evc.specs.Tests.{outside}
 use Rattle.evc.specs.Tiles.{tileSide}
 use Rattle.evc.proofs.Tests.{outside-no}
-use Rattle.planes.specs.Areas.{outsidePlane}
-use Rattle.planes.specs.Blocks.{TwoBlocks}
-use Rattle.planes.proofs.Planes.{is-inside, rows-inside, plane-alike}
-use Rattle.planes.proofs.Replies.{rest-alike}
+use Rattle.plane_tests.specs.Areas.{outsidePlane}
+use Rattle.plane_tests.specs.Blocks.{TwoBlocks}
+use Rattle.plane_tests.proofs.Planes.{is-inside, rows-inside, plane-alike}
+use Rattle.plane_tests.proofs.Replies.{rest-alike}
 use Rattle.diff.proofs.Tested.{areas-found}
 use Rattle.satd.proofs.Tiling.{satd-alike, satd-size, satd-depth, satd-area, satd-rest}
 use Rattle.satd.proofs.satd.evce_satd_16b.Statement.{statement}
@@ -22,22 +22,22 @@ use Rattle.satd.proofs.satd.evce_satd_16b.Tie as tie
 
 -- what each test that was left says
 sized : (c : tie.Else1) → let a = c .before .before .before .before .args in (outside 2 64 (a .w) || eqb (a .w % 2) 1) || (outside 2 64 (a .h) || eqb (a .h % 2) 1) ≡ false
-sized c = sym (c .before .uneven-sides .ensures) ∙ c .if1 .left
+sized c = sym (c .before .bad-even-sides .ensures) ∙ c .if1 .left
 
 deep : (c : tie.Else2) → outside 8 14 (c .before .before .before .before .before .before .args .depth) ≡ false
-deep c = sym (c .before .wrong-depth .ensures) ∙ c .if2 .left
+deep c = sym (c .before .bad-depth .ensures) ∙ c .if2 .left
 
-uneven-sides-requires : tie.Need-uneven-sides-requires
-uneven-sides-requires c κs = search needs
+bad-even-sides-requires : tie.Need-bad-even-sides-requires
+bad-even-sides-requires c κs = search needs
 
 returns : tie.Need-returns
-returns c = satd-size _ _ _ _ _ (sym (c .before .uneven-sides .ensures) ∙ c .if1 .taken)
+returns c = satd-size _ _ _ _ _ (sym (c .before .bad-even-sides .ensures) ∙ c .if1 .taken)
 
-wrong-depth-requires : tie.Need-wrong-depth-requires
-wrong-depth-requires c κs = search needs
+bad-depth-requires : tie.Need-bad-depth-requires
+bad-depth-requires c κs = search needs
 
 returns-2 : tie.Need-returns-2
-returns-2 c = satd-depth _ _ _ _ _ (sized (c .before .before)) (sym (c .before .wrong-depth .ensures) ∙ c .if2 .taken)
+returns-2 c = satd-depth _ _ _ _ _ (sized (c .before .before)) (sym (c .before .bad-depth .ensures) ∙ c .if2 .taken)
 
 outside-plane-requires : tie.Need-outside-plane-requires
 outside-plane-requires c κs = search needs
@@ -121,9 +121,9 @@ pub evce-satd-16b-spec : {M : Type 1} → statement M
 evce-satd-16b-spec =
     tie.close
     (tie.spec
-    uneven-sides-requires
+    bad-even-sides-requires
     returns
-    wrong-depth-requires
+    bad-depth-requires
     returns-2
     outside-plane-requires
     mul-if3

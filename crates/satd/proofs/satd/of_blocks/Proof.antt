@@ -1,4 +1,4 @@
--- `satd::of_blocks` meets its contract: the differences that are formed were tested. Assumes nothing.
+-- `satd::satd::of_blocks` meets its contract: the differences that are formed were tested. Assumes nothing.
 use mathlib.Core.Path.{_≡_, refl, sym, ap, ap₂, subst, _∙_}
 use mathlib.Core.Bool.{Bool, true, false}
 use mathlib.Core.List.{[], _∷_}
@@ -17,8 +17,8 @@ use Rattle.evc.specs.Calls.{sampleTests}
 use Rattle.evc.specs.Differences.{difference}
 use Rattle.evc.specs.Tiles.{tileSide, satdTotal}
 use Rattle.evc.proofs.Marks.{below-all}
-use Rattle.planes.specs.Blocks.{cell, strided, rest}
-use Rattle.planes.proofs.Replies.{marked-first}
+use Rattle.plane_tests.specs.Blocks.{cell, strided, rest}
+use Rattle.plane_tests.proofs.Replies.{marked-first}
 use Rattle.diff.specs.Small.{SmallBlocks, Tested, apartFrom}
 use Rattle.satd.specs.Sides.{Side}
 use Rattle.satd.proofs.Tiling.{side-is, satd-fits}

@@ -1,4 +1,4 @@
--- `sums::across` meets its contract. Assumes nothing.
+-- `satd::sums::across` meets its contract. Assumes nothing.
 use mathlib.Core.Path.{_≡_}
 use Prim.Native.Nat.{_+_, _*_, _-_, _/_, _≤_}
 use native.Mathlib.Nat.{mul-le-mul-right}

@@ -1,4 +1,4 @@
--- `sums::number` meets its contract. Assumes nothing.
+-- `satd::sums::number` meets its contract. Assumes nothing.
 use mathlib.Core.Path.{_≡_, sym, ap, subst, _∙_}
 use mathlib.Core.Logic.{inl, inr}
 use mathlib.Core.List.{List}

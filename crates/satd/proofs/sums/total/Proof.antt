@@ -1,4 +1,4 @@
--- `sums::total` meets its contract. Assumes nothing.
+-- `satd::sums::total` meets its contract. Assumes nothing.
 use mathlib.Core.Path.{_≡_}
 use Prim.Native.Nat.{_+_, _*_, _-_, _/_, _≤_}
 use native.Mathlib.Nat.{mul-le-mul-right}

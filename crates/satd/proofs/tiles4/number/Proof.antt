@@ -1,4 +1,4 @@
--- `tiles4::number` meets its contract. Assumes nothing.
+-- `satd::tiles4::number` meets its contract. Assumes nothing.
 use mathlib.Core.Path.{refl}
 use mathlib.Core.List.{List, []}
 use Prim.Native.Nat.{_+_, _*_, _-_}
@@ -6,7 +6,7 @@ use native.Mathlib.Omega.{arith}
 use lib.IntN.{ℤ}
 use Rattle.integers.specs.Lists.{tab}
 use Rattle.integers.proofs.Loop.{Filled, filled-start, filled-step, filled-end}
-use Rattle.planes.specs.Blocks.{cell}
+use Rattle.plane_tests.specs.Blocks.{cell}
 use Rattle.diff.specs.Small.{SmallRow, apartFrom}
 use Rattle.diff.proofs.Tested.{small-one, small-two}
 use Rattle.satd.proofs.Tiling.{number-of}

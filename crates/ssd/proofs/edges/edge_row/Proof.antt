@@ -1,4 +1,4 @@
--- `edge_row` meets its contract. Assumes nothing.
+-- `ssd::edges::edge_row` meets its contract. Assumes nothing.
 use mathlib.Core.Path.{sym, ap, ap₂, _∙_}
 use Prim.Native.Nat.{ℕ}
 use lib.Bits.{bitOr}
@@ -6,8 +6,8 @@ use lib.IntN.{ℤ, pos, _+ℤ_}
 use lib.ListN.{getD}
 use mir.Facts.{toZ-ofZ}
 use Rattle.evc.specs.Planes.{edge}
-use Rattle.compare.proofs.Cells.{told-ext}
-use Rattle.compare.proofs.Line.{line-room, line-long, line-length, line-at}
+use Rattle.block_rows.proofs.Cells.{totalled-ext}
+use Rattle.block_rows.proofs.Line.{line-room, line-long, line-length, line-at}
 use Rattle.ssd.specs.Squares.{squaredLow}
 use borrow.Author.Needs.{needs}
 use Rattle.ssd.proofs.edges.edge_row.Statement.{statement}
@@ -61,7 +61,7 @@ returns c =
     let e = toZ-ofZ (s .fits .x) in
     let F : ℕ → ℕ = λ i. getD (a .a .now) (edge (a .x +ℤ pos i)) 0 in
     let G : ℕ → ℕ = λ i. getD (a .b .now) (edge (a .x +ℤ pos i)) 0 in
-    told-ext (λ i. squaredLow (a .depth) (F i) (G i)) (λ i. bitOr (F i) (G i)) (c .ssd-row .ensures)
+    totalled-ext (λ i. squaredLow (a .depth) (F i) (G i)) (λ i. bitOr (F i) (G i)) (c .ssd-row .ensures)
     (λ i p.
     ap₂ (squaredLow (a .depth))
     (line-at _ _ (s .pre .0) _ _ (c .before .before .before .before .before .before .before .edge-row .ensures) i p ∙ ap (λ (z : ℤ). getD (a .a .now) (edge (z +ℤ pos i)) 0) e)

@@ -1,4 +1,4 @@
--- `edge_rows` meets its contract. Assumes nothing.
+-- `ssd::edges::edge_rows` meets its contract. Assumes nothing.
 use mathlib.Core.Path.{_≡_, ap, ap₂, _∙_}
 use Prim.Native.Nat.{ℕ, _-_, _*_, _≤_, _<_}
 use native.Mathlib.Omega.{arith}
@@ -11,11 +11,11 @@ use mir.Facts.{toZ-ofZ}
 use Rattle.integers.specs.Sum.{sumN}
 use Rattle.integers.specs.Or.{orN}
 use Rattle.evc.specs.Planes.{edge}
-use Rattle.compare.specs.Totals.{Told, BlocksTold}
-use Rattle.compare.specs.Edges.{edgeCell}
-use Rattle.compare.proofs.Running.{Running, running-start, running-step, running-end, running-next}
-use Rattle.compare.proofs.Cells.{told-ext, row-most}
-use Rattle.compare.proofs.AtEdges.{edge-at, of-bits}
+use Rattle.block_rows.specs.Totals.{Totalled, BlocksTotalled}
+use Rattle.block_rows.specs.Edges.{edgeCell}
+use Rattle.block_rows.proofs.Running.{Running, running-start, running-step, running-end, running-next}
+use Rattle.block_rows.proofs.Cells.{totalled-ext, row-most}
+use Rattle.block_rows.proofs.AtEdges.{edge-at, of-bits}
 use Rattle.ssd.specs.Squares.{squaredLow}
 use Rattle.ssd.proofs.Squares.{squared-low-le}
 use Rattle.ssd.proofs.edges.edge_rows.Statement.{statement}
@@ -104,7 +104,7 @@ module _ (c : tie.After-edge-row Inv-loop μ-loop) where
 
   told :
       let j = c .before .before .before .before .before .loop .j in
-      Told (c .before .before .before .before .before .before .before .before .args .w) (λ i. squaredLow d (F j i) (G j i)) (λ i. bitOr (F j i) (G j i)) (c .edge-row .result .sum) (c .edge-row .result .any)
+      Totalled (c .before .before .before .before .before .before .before .before .args .w) (λ i. squaredLow d (F j i) (G j i)) (λ i. bitOr (F j i) (G j i)) (c .edge-row .result .sum) (c .edge-row .result .any)
   told =
       let a = c .before .before .before .before .before .before .before .before .args in
       let j = c .before .before .before .before .before .loop .j in
@@ -112,7 +112,7 @@ module _ (c : tie.After-edge-row Inv-loop μ-loop) where
       let y = toZ w16 (ofZ w16 (a .y)) in
       let e = ap (λ (n : ℕ). n * a .stride1) (c .before .before .before .row-start .ensures .0) in
       let f = ap (λ (n : ℕ). n * a .stride2) (c .before .before .before .row-start .ensures .0) in
-      told-ext (λ i. squaredLow d (F j i) (G j i)) (λ i. bitOr (F j i) (G j i)) (c .edge-row .ensures)
+      totalled-ext (λ i. squaredLow d (F j i) (G j i)) (λ i. bitOr (F j i) (G j i)) (c .edge-row .ensures)
       (λ i p. ap₂ (squaredLow d) (edge-at (a .one .now) (a .stride1) x y _ j i e) (edge-at (a .two .now) (a .stride2) x y _ j i f))
       (λ i p. ap₂ bitOr (edge-at (a .one .now) (a .stride1) x y _ j i e) (edge-at (a .two .now) (a .stride2) x y _ j i f))
 
@@ -141,7 +141,7 @@ returns c =
     let s = c .before .before .before .before in
     let a = s .args in
     of-bits
-    (λ x y. BlocksTold (squaredLow (a .depth)) (a .w) (a .h) (edgeCell (a .one .now) (a .stride1) x y) (edgeCell (a .two .now) (a .stride2) x y) (c .before .loop .sum) (c .before .loop .any))
+    (λ x y. BlocksTotalled (squaredLow (a .depth)) (a .w) (a .h) (edgeCell (a .one .now) (a .stride1) x y) (edgeCell (a .two .now) (a .stride2) x y) (c .before .loop .sum) (c .before .loop .any))
     (s .fits .x) (s .fits .y) (running-end (c .before .loop .inv) (omega arith))
 
 pub edge-rows-spec : {M : Type 1} → statement M

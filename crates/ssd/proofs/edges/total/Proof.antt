@@ -1,4 +1,4 @@
--- `total` meets its contract. Assumes nothing.
+-- `ssd::edges::total` meets its contract. Assumes nothing.
 use mathlib.Core.Path.{_≡_, sym, ap, ap₂, _∙_}
 use mathlib.Core.Bool.{_||_}
 use Prim.Native.Nat.{ℕ, _+_, _*_, _<_}
@@ -10,10 +10,10 @@ use lib.ListN.{length}
 use lib.Signed.{ltZ}
 use mir.Facts.{toZ-ofZ}
 use Rattle.evc.specs.Planes.{edge}
-use Rattle.compare.specs.Totals.{BlocksTold}
-use Rattle.compare.specs.Edges.{edgeCell}
-use Rattle.compare.proofs.Cells.{compared-ext}
-use Rattle.compare.proofs.AtEdges.{of-bits, Plain, is-plain, plain-at, plain-inside}
+use Rattle.block_rows.specs.Totals.{BlocksTotalled}
+use Rattle.block_rows.specs.Edges.{edgeCell}
+use Rattle.block_rows.proofs.Cells.{compared-ext}
+use Rattle.block_rows.proofs.AtEdges.{of-bits, Plain, is-plain, plain-at, plain-inside}
 use Rattle.ssd.specs.Squares.{squaredLow}
 use Rattle.ssd.proofs.edges.total.Statement.{statement}
 use Rattle.ssd.proofs.edges.total.Tie as tie
@@ -59,7 +59,7 @@ returns c =
     let a = s .args in
     of-bits
     (λ x y.
-    BlocksTold (squaredLow (a .depth)) (a .w) (a .h) (edgeCell (a .one .now) (a .stride1) x y) (edgeCell (a .two .now) (a .stride2) x y)
+    BlocksTotalled (squaredLow (a .depth)) (a .w) (a .h) (edgeCell (a .one .now) (a .stride1) x y) (edgeCell (a .two .now) (a .stride2) x y)
     (c .edge-rows .result .sum) (c .edge-rows .result .any))
     (s .fits .x) (s .fits .y) (c .edge-rows .ensures)
 

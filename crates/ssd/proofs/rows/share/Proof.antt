@@ -1,4 +1,4 @@
--- `share` meets its contract. Assumes nothing.
+-- `ssd::rows::share` meets its contract. Assumes nothing.
 use mathlib.Core.Path.{ap, _∙_}
 use Prim.Native.Nat.{ℕ, _/_, _^_}
 use native.Mathlib.Nat.{mod-eq-of-lt}

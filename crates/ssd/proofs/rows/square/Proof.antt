@@ -1,4 +1,4 @@
--- `square` meets its contract. Assumes nothing.
+-- `ssd::rows::square` meets its contract. Assumes nothing.
 use mathlib.Core.Path.{ap, _∙_}
 use mathlib.Core.List.{[], _∷_}
 use Prim.Native.Nat.{ℕ}
@@ -10,7 +10,7 @@ use mir.Syntax.{w16, w32}
 use Rattle.integers.proofs.Bound.{abs-mul}
 use Rattle.integers.proofs.Order.{nat-≤}
 use Rattle.integers.proofs.Expr.{Ex, Known, env, nat, var, sub, mul, loc, fit, reads, to-unsigned}
-use Rattle.compare.specs.Totals.{apart}
+use Rattle.block_rows.specs.Totals.{apart}
 use Rattle.ssd.proofs.rows.square.Statement.{statement}
 use Rattle.ssd.proofs.rows.square.Tie as tie
 

@@ -1,4 +1,4 @@
--- `ssd_row` meets its contract. Assumes nothing.
+-- `ssd::rows::ssd_row` meets its contract. Assumes nothing.
 use Prim.Native.Nat.{ℕ, _-_, _*_, _%_, _^_, _≤_}
 use native.Mathlib.Nat.{le-trans, le-of-eq}
 use native.Mathlib.Omega.{arith}
@@ -11,7 +11,7 @@ use mir.Syntax.{w16}
 use Rattle.integers.proofs.Bits.{one-shl}
 use Rattle.ssd.specs.Squares.{squared, squaredLow}
 use Rattle.ssd.proofs.Squares.{cut, cut-small, cut-squared, squared-low-le}
-use Rattle.compare.proofs.Running.{Running, running-start, running-step, running-end}
+use Rattle.block_rows.proofs.Running.{Running, running-start, running-step, running-end}
 use borrow.Author.Needs.{needs}
 use Rattle.ssd.proofs.rows.ssd_row.Statement.{statement}
 use Rattle.ssd.proofs.rows.ssd_row.Tie as tie

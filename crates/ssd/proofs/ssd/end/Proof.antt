@@ -1,4 +1,4 @@
--- `end` meets its contract. Assumes nothing.
+-- `ssd::ssd::end` meets its contract. Assumes nothing.
 use Prim.Native.Nat.{_^_}
 use native.Mathlib.Omega.{arith}
 use borrow.Author.Tests.{le-leb, lt-leb}

@@ -1,4 +1,4 @@
--- `evce_ssd_16b` meets its contract: each refusal is the first broken test, and what is left is read alike. Assumes nothing.
+-- `ssd::ssd::evce_ssd_16b` meets its contract: each refusal is the first broken test, and what is left is read alike. Assumes nothing.
 use mathlib.Core.Path.{_≡_, refl, sym, ap, _∙_}
 use mathlib.Core.Bool.{false, _||_}
 use Prim.Native.Nat.{ℕ, _+_, _*_, _-_, _^_}
@@ -10,12 +10,12 @@ use lib.ListN.{length}
 use Rattle.evc.specs.Tests.{outside}
 use Rattle.evc.specs.Planes.{Block, inPlane, inPacked, planeOf}
 use Rattle.evc.proofs.Tests.{outside-no}
-use Rattle.planes.specs.Areas.{outsidePlane}
-use Rattle.planes.specs.Blocks.{TwoBlocks, cell}
-use Rattle.planes.proofs.Planes.{is-inside, rows-inside, plane-alike}
-use Rattle.planes.proofs.Replies.{rest-alike}
-use Rattle.planes.proofs.SmallSides.{logs-small, side-small, shifted, shifted-is}
-use Rattle.ssd.proofs.Ends.{ssd-alike, ssd-small, ssd-told}
+use Rattle.plane_tests.specs.Areas.{outsidePlane}
+use Rattle.plane_tests.specs.Blocks.{TwoBlocks, cell}
+use Rattle.plane_tests.proofs.Planes.{is-inside, rows-inside, plane-alike}
+use Rattle.plane_tests.proofs.Replies.{rest-alike}
+use Rattle.plane_tests.proofs.SmallSides.{logs-small, side-small, shifted, shifted-is}
+use Rattle.ssd.proofs.Ends.{ssd-alike, ssd-small, ssd-totalled}
 use Rattle.ssd.proofs.Logs.{ssd-size, ssd-depth, ssd-area, ssd-second, ssd-rest}
 use Rattle.ssd.proofs.ssd.evce_ssd_16b.Statement.{statement}
 use Rattle.ssd.proofs.ssd.evce_ssd_16b.Tie as tie
@@ -29,10 +29,10 @@ B c w h = let a = c .before .before .args in inPacked (a .cur .now) w h (a .dept
 
 -- what each test that was left says
 sized : (c : tie.Else1) → let a = c .before .before .before .before .args in ltb 6 (a .log2-w) || ltb 6 (a .log2-h) ≡ false
-sized c = sym (c .before .logs .ensures) ∙ c .if1 .left
+sized c = sym (c .before .bad-logs .ensures) ∙ c .if1 .left
 
 deep : (c : tie.Else2) → outside 8 14 (c .before .before .before .before .before .before .args .depth) ≡ false
-deep c = sym (c .before .wrong-depth .ensures) ∙ c .if2 .left
+deep c = sym (c .before .bad-depth .ensures) ∙ c .if2 .left
 
 one :
     (c : tie.Else3) →
@@ -49,13 +49,13 @@ two :
     ≡ false
 two c = sym (c .before .outside-plane2 .ensures) ∙ c .if4 .left
 
-logs-requires : tie.Need-logs-requires
-logs-requires c κs = search needs
+bad-logs-requires : tie.Need-bad-logs-requires
+bad-logs-requires c κs = search needs
 
 returns : tie.Need-returns
 returns c =
     let a = c .before .before .before .before .args in
-    ssd-size (a .log2-w) (a .log2-h) (a .depth) (A (c .before .before)) (B (c .before .before)) (sym (c .before .logs .ensures) ∙ c .if1 .taken)
+    ssd-size (a .log2-w) (a .log2-h) (a .depth) (A (c .before .before)) (B (c .before .before)) (sym (c .before .bad-logs .ensures) ∙ c .if1 .taken)
 
 -- the sides
 wide : (c : tie.Else1) → let a = c .before .before .before .before .args in shifted (a .log2-w) ≡ 2 ^ a .log2-w
@@ -70,15 +70,15 @@ shl-w c = let a = c .before .before .before .before .args in omega (arith, logs-
 shl-h : tie.Need-shl-h
 shl-h c = let a = c .before .before .before .before .args in omega (arith, logs-small (a .log2-w) (a .log2-h) (sized c) .1)
 
-wrong-depth-requires : tie.Need-wrong-depth-requires
-wrong-depth-requires c κs = search needs
+bad-depth-requires : tie.Need-bad-depth-requires
+bad-depth-requires c κs = search needs
 
 returns-2 : tie.Need-returns-2
 returns-2 c =
     let s = c .before .before in
     let a = s .before .before .before .before .args in
     ssd-depth (a .log2-w) (a .log2-h) (a .depth) (A (s .before .before)) (B (s .before .before)) (shifted (a .log2-w))
-    (shifted (a .log2-h)) (wide s) (high s) (sized s) (sym (c .before .wrong-depth .ensures) ∙ c .if2 .taken)
+    (shifted (a .log2-h)) (wide s) (high s) (sized s) (sym (c .before .bad-depth .ensures) ∙ c .if2 .taken)
 
 outside-plane-requires : tie.Need-outside-plane-requires
 outside-plane-requires c κs = search needs
@@ -149,7 +149,7 @@ returns-5 c =
     let p = plane-alike (a .org .now) (a .width) (a .height) (a .stride) (a .x) (a .y) w h (a .depth) (a .y * a .stride + a .x) refl in
     let q = plane-alike (a .cur .now) w h w 0 0 w h (a .depth) 0 (omega arith) in
     c .end .ensures
-    ∙ ssd-told w h (a .depth) (cell 0 (a .org .now) (a .y * a .stride + a .x) (a .stride)) (cell 0 (a .cur .now) 0 w) (c .before .ssd-block .ensures)
+    ∙ ssd-totalled w h (a .depth) (cell 0 (a .org .now) (a .y * a .stride + a .x) (a .stride)) (cell 0 (a .cur .now) 0 w) (c .before .ssd-block .ensures)
     ∙ rest-alike p q _ _ (ap pos (ssd-alike p q (2 * (a .depth - 8))))
     ∙ ssd-rest (a .log2-w) (a .log2-h) (a .depth) (A (s .before .before)) (B (s .before .before)) w h (wide s)
     (high s) (sized s) (deep (c .before .before .before .before .before .before)) (one (c .before .before .before .before)) (two (c .before .before))
@@ -158,11 +158,11 @@ pub evce-ssd-16b-spec : {M : Type 1} → statement M
 evce-ssd-16b-spec =
     tie.close
     (tie.spec
-    logs-requires
+    bad-logs-requires
     returns
     shl-w
     shl-h
-    wrong-depth-requires
+    bad-depth-requires
     returns-2
     outside-plane-requires
     returns-3

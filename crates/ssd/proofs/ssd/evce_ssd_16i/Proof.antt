@@ -1,4 +1,4 @@
--- `evce_ssd_16i` meets its contract: each refusal is the first broken test, and what is left is read alike. Assumes nothing.
+-- `ssd::ssd::evce_ssd_16i` meets its contract: each refusal is the first broken test, and what is left is read alike. Assumes nothing.
 use mathlib.Core.Path.{_≡_, sym, ap, _∙_}
 use mathlib.Core.Bool.{false, _||_}
 use Prim.Native.Nat.{ℕ, _*_, _-_, _^_}
@@ -10,13 +10,13 @@ use lib.ListN.{length}
 use Rattle.evc.specs.Tests.{outside}
 use Rattle.evc.specs.Planes.{Block, atEdges, planeOf}
 use Rattle.evc.proofs.Tests.{outside-no}
-use Rattle.planes.specs.Areas.{outsideEdges}
-use Rattle.planes.proofs.Replies.{rest-alike}
-use Rattle.planes.proofs.SmallSides.{logs-small, side-small, shifted, shifted-is}
-use Rattle.compare.specs.Totals.{BlocksTold}
-use Rattle.compare.specs.Edges.{edgeCell, EdgesIn}
-use Rattle.compare.proofs.AtEdges.{edges-in, edges-alike, as-bits, of-bits}
-use Rattle.ssd.proofs.Ends.{ssd-alike, ssd-small, ssd-told}
+use Rattle.plane_tests.specs.Areas.{outsideEdges}
+use Rattle.plane_tests.proofs.Replies.{rest-alike}
+use Rattle.plane_tests.proofs.SmallSides.{logs-small, side-small, shifted, shifted-is}
+use Rattle.block_rows.specs.Totals.{BlocksTotalled}
+use Rattle.block_rows.specs.Edges.{edgeCell, EdgesIn}
+use Rattle.block_rows.proofs.AtEdges.{edges-in, edges-alike, as-bits, of-bits}
+use Rattle.ssd.proofs.Ends.{ssd-alike, ssd-small, ssd-totalled}
 use Rattle.ssd.specs.Squares.{squaredLow}
 use Rattle.ssd.proofs.Logs.{ssd-size, ssd-depth, ssd-area, ssd-second, ssd-rest}
 use Rattle.ssd.proofs.ssd.evce_ssd_16i.Statement.{statement}
@@ -31,10 +31,10 @@ B c w h = let a = c .before .before .args in atEdges (planeOf (a .two .now) (a .
 
 -- what each test that was left says
 sized : (c : tie.Else1) → let a = c .before .before .before .before .args in ltb 6 (a .log2-w) || ltb 6 (a .log2-h) ≡ false
-sized c = sym (c .before .logs .ensures) ∙ c .if1 .left
+sized c = sym (c .before .bad-logs .ensures) ∙ c .if1 .left
 
 deep : (c : tie.Else2) → outside 8 14 (c .before .before .before .before .before .before .args .depth) ≡ false
-deep c = sym (c .before .wrong-depth .ensures) ∙ c .if2 .left
+deep c = sym (c .before .bad-depth .ensures) ∙ c .if2 .left
 
 -- the positions come as their bits
 far1 :
@@ -77,13 +77,13 @@ two :
     outsideEdges (length (a .two .now)) (a .width2) (a .height2) (a .stride2) (a .x) (a .y) (shifted (a .log2-w)) (shifted (a .log2-h)) ≡ false
 two c = sym (far2 (c .before)) ∙ c .if4 .left
 
-logs-requires : tie.Need-logs-requires
-logs-requires c κs = search needs
+bad-logs-requires : tie.Need-bad-logs-requires
+bad-logs-requires c κs = search needs
 
 returns : tie.Need-returns
 returns c =
     let a = c .before .before .before .before .args in
-    ssd-size (a .log2-w) (a .log2-h) (a .depth) (A (c .before .before)) (B (c .before .before)) (sym (c .before .logs .ensures) ∙ c .if1 .taken)
+    ssd-size (a .log2-w) (a .log2-h) (a .depth) (A (c .before .before)) (B (c .before .before)) (sym (c .before .bad-logs .ensures) ∙ c .if1 .taken)
 
 -- the sides
 wide : (c : tie.Else1) → let a = c .before .before .before .before .args in shifted (a .log2-w) ≡ 2 ^ a .log2-w
@@ -98,15 +98,15 @@ shl-w c = let a = c .before .before .before .before .args in omega (arith, logs-
 shl-h : tie.Need-shl-h
 shl-h c = let a = c .before .before .before .before .args in omega (arith, logs-small (a .log2-w) (a .log2-h) (sized c) .1)
 
-wrong-depth-requires : tie.Need-wrong-depth-requires
-wrong-depth-requires c κs = search needs
+bad-depth-requires : tie.Need-bad-depth-requires
+bad-depth-requires c κs = search needs
 
 returns-2 : tie.Need-returns-2
 returns-2 c =
     let s = c .before .before in
     let a = s .before .before .before .before .args in
     ssd-depth (a .log2-w) (a .log2-h) (a .depth) (A (s .before .before)) (B (s .before .before)) (shifted (a .log2-w))
-    (shifted (a .log2-h)) (wide s) (high s) (sized s) (sym (c .before .wrong-depth .ensures) ∙ c .if2 .taken)
+    (shifted (a .log2-h)) (wide s) (high s) (sized s) (sym (c .before .bad-depth .ensures) ∙ c .if2 .taken)
 
 outside-edges-requires : tie.Need-outside-edges-requires
 outside-edges-requires c κs = search needs
@@ -167,14 +167,14 @@ total-requires c κs =
 told :
     (c : tie.After-total) →
     let a = c .before .before .before .before .before .before .before .before .before .before .before .args in
-    BlocksTold (squaredLow (a .depth)) (shifted (a .log2-w)) (shifted (a .log2-h)) (edgeCell (a .one .now) (a .stride1) (a .x) (a .y))
+    BlocksTotalled (squaredLow (a .depth)) (shifted (a .log2-w)) (shifted (a .log2-h)) (edgeCell (a .one .now) (a .stride1) (a .x) (a .y))
     (edgeCell (a .two .now) (a .stride2) (a .x) (a .y)) (c .total .result .sum) (c .total .result .any)
 told c =
     let t = c .before .before .before .before .before .before .before .before .before .before .before in
     let a = t .args in
     of-bits
     (λ x y.
-    BlocksTold (squaredLow (a .depth)) (shifted (a .log2-w)) (shifted (a .log2-h)) (edgeCell (a .one .now) (a .stride1) x y)
+    BlocksTotalled (squaredLow (a .depth)) (shifted (a .log2-w)) (shifted (a .log2-h)) (edgeCell (a .one .now) (a .stride1) x y)
     (edgeCell (a .two .now) (a .stride2) x y) (c .total .result .sum) (c .total .result .any))
     (t .fits .x) (t .fits .y) (c .total .ensures)
 
@@ -194,7 +194,7 @@ returns-5 c =
     let p = edges-alike (a .one .now) (a .width1) (a .height1) (a .stride1) (a .x) (a .y) w h (a .depth) in
     let q = edges-alike (a .two .now) (a .width2) (a .height2) (a .stride2) (a .x) (a .y) w h (a .depth) in
     c .end .ensures
-    ∙ ssd-told w h (a .depth) (edgeCell (a .one .now) (a .stride1) (a .x) (a .y)) (edgeCell (a .two .now) (a .stride2) (a .x) (a .y)) (told (c .before))
+    ∙ ssd-totalled w h (a .depth) (edgeCell (a .one .now) (a .stride1) (a .x) (a .y)) (edgeCell (a .two .now) (a .stride2) (a .x) (a .y)) (told (c .before))
     ∙ rest-alike p q _ _ (ap pos (ssd-alike p q (2 * (a .depth - 8))))
     ∙ ssd-rest (a .log2-w) (a .log2-h) (a .depth) (A (s .before .before)) (B (s .before .before)) w h (wide s)
     (high s) (sized s) (deep (c .before .before .before .before .before .before)) (one (c .before .before .before .before)) (two (c .before .before))
@@ -203,11 +203,11 @@ pub evce-ssd-16i-spec : {M : Type 1} → statement M
 evce-ssd-16i-spec =
     tie.close
     (tie.spec
-    logs-requires
+    bad-logs-requires
     returns
     shl-w
     shl-h
-    wrong-depth-requires
+    bad-depth-requires
     returns-2
     outside-edges-requires
     returns-3

@@ -1,0 +1,3 @@
+-- What a caller hands in, and what it is told.
+pub mod Given
+pub mod Told

@@ -1,3 +1,0 @@
--- What the contracts of the crates that compare blocks cite, beyond document 01's own definitions (evc/specs) and those of planes.
-pub mod Totals
-pub mod Edges

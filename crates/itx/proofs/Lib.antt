@@ -1,0 +1,2 @@
+-- What a job and a sub-block cite: both stages on one block.
+pub mod Blocks

@@ -1,0 +1,29 @@
+-- `itx::both::large` meets its contract: the prefix that is lent is as many zeros as the area has samples. Assumes nothing.
+use mathlib.Core.Path.{sym}
+use lib.Seq.{length-take-le}
+use borrow.Author.Needs.{needs}
+use Rattle.itx.proofs.both.Ends.{by-zeros}
+use Rattle.itx.proofs.both.large.Statement.{statement}
+use Rattle.itx.proofs.both.large.Tie as tie
+
+array-borrow-prefix-between : tie.Need-array-borrow-prefix-between
+array-borrow-prefix-between c = search needs
+
+slice-aggregate-stages-over : tie.Need-slice-aggregate-stages-over
+slice-aggregate-stages-over c = sym (length-take-le _ _ (c .before .before .pre))
+
+stages-over-requires : tie.Need-stages-over-requires
+stages-over-requires c κs = search needs
+
+same-length : tie.Need-same-length
+same-length c = search needs
+
+returns : tie.Need-returns
+returns c =
+    let start = c .before .before .before .before .before in
+    by-zeros (start .args .log2-w) (start .args .log2-h) (start .args .shift) (start .args .part .now) 4096 (start .pre) _ (c .before .before .stages-over .ensures)
+
+pub large-spec : {M : Type 1} → statement M
+large-spec =
+    tie.close
+    (tie.spec array-borrow-prefix-between slice-aggregate-stages-over stages-over-requires same-length returns)

@@ -1,0 +1,2 @@
+-- The law of a call that no shape did.
+mod Nobody

@@ -1,0 +1,81 @@
+-- `itx::stage_one::large` meets its contract: done by the one or the other crate, or refused. Assumes nothing.
+use borrow.Author.Needs.{needs}
+use mathlib.Core.Path.{_≡_, _∙_, subst}
+use mathlib.Core.Bool.{false}
+use mathlib.Core.List.{List}
+use Prim.Native.Nat.{ℕ}
+use lib.ListN.{length}
+use lib.IntN.{ℤ}
+use Rattle.evc.specs.Answers.{answerNumber}
+use Rattle.evc.specs.Stages.{stageOneNumber, itxb0Exit}
+use Rattle.itx_halving.specs.Taken.{takesOne}
+use Rattle.itx_halving.proofs.Nobody.{did, not-taken-is, unchanged}
+use Rattle.itx.proofs.stage_one.Nobody.{one-nobody}
+use Rattle.itx.proofs.stage_one.large.Statement.{statement}
+use Rattle.itx.proofs.stage_one.large.Tie as tie
+
+-- the refusal number, and what the stage leaves, by the output
+abbrev number : tie.Start → List ℤ → ℕ
+number s d = stageOneNumber (length (s .args .src .now)) (length d) (s .args .log2-size) (s .args .log2-line)
+
+abbrev exit : tie.Start → List ℤ → List ℤ
+exit s d = itxb0Exit (s .args .log2-size) (s .args .log2-line) (s .args .src .now) d
+
+-- where the first crate, and then the second, left the call alone
+first-left : (c : tie.Else1) → c .before .before .itxb0 .last .1 .0 ≡ c .before .before .before .before .args .dst .now
+first-left c = let s = c .before .before .before .before in let k = c .before .before .itxb0 in unchanged 4 6 4 (s .args .log2-size) (s .args .log2-line) (number s) (exit s) (k .result) (s .args .dst .now) (k .ensures .0) (k .ensures .1) (c .if1 .left)
+
+itxb0-requires : tie.Need-itxb0-requires
+itxb0-requires c κs = search needs
+
+same-length : tie.Need-same-length
+same-length c = search needs
+
+returns : tie.Need-returns
+returns c =
+    let s = c .before .before .before .before in
+    let k = c .before .before .itxb0 in
+    did 4 6 4 (s .args .log2-size) (s .args .log2-line) (number s) (exit s) (k .result) (s .args .dst .now) (k .ensures .0) (k .ensures .1) (c .if1 .taken)
+
+itxb0-requires-2 : tie.Need-itxb0-requires-2
+itxb0-requires-2 c κs = search needs
+
+same-length-2 : tie.Need-same-length-2
+same-length-2 c = search needs
+
+returns-2 : tie.Need-returns-2
+returns-2 c =
+    let e = c .before .before .before .before in
+    let s = e .before .before .before .before in
+    let k = c .before .before .itxb02 in
+    subst (λ (d : List ℤ). (0 ≡ number s d) × (k .last .1 .0 ≡ exit s d)) (first-left e)
+    (did 4 6 0 (s .args .log2-size) (s .args .log2-line) (number s) (exit s) (k .result) _ (k .ensures .0) (k .ensures .1) (c .if2 .taken))
+
+stage-one-requires : tie.Need-stage-one-requires
+stage-one-requires c κs = search needs
+
+same-length-3 : tie.Need-same-length-3
+same-length-3 c = search needs
+
+returns-3 : tie.Need-returns-3
+returns-3 c =
+    let e = c .before .before .before .before .before in
+    let s = e .before .before .before .before in
+    let k = c .before .before .before .itxb02 in
+    let d = unchanged 4 6 0 (s .args .log2-size) (s .args .log2-line) (number s) (exit s) (k .result) _ (k .ensures .0) (k .ensures .1) (c .before .if2 .left) ∙ first-left e in
+    let n = subst (λ (d : List ℤ). takesOne 4 6 0 (s .args .log2-size) (s .args .log2-line) (s .args .src .now) d ≡ false) (first-left e) (not-taken-is 4 6 0 (s .args .log2-size) (s .args .log2-line) (number s) (exit s) (k .result) _ (k .ensures .0) (k .ensures .1) (c .before .if2 .left)) in
+    (subst (λ (d : List ℤ). answerNumber (c .stage-one .result) ≡ number s d) d (c .stage-one .ensures), d ∙ one-nobody (s .args .log2-size) (s .args .log2-line) (s .args .src .now) (s .args .dst .now) (s .pre) n)
+
+pub large-spec : {M : Type 1} → statement M
+large-spec =
+    tie.close
+    (tie.spec
+    itxb0-requires
+    same-length
+    returns
+    itxb0-requires-2
+    same-length-2
+    returns-2
+    stage-one-requires
+    same-length-3
+    returns-3)

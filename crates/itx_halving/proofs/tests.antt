@@ -1,0 +1,2 @@
+-- The number of a stage, test by test.
+mod Laws

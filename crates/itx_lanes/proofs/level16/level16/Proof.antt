@@ -1,0 +1,28 @@
+-- `itx_lanes::level16::level16` meets its contract: pass after pass. Written by tools/levels.py.
+-- Assumes nothing.
+use mathlib.Core.Path.{refl, _∙_}
+use lib.Dec.{lit≤}
+use Rattle.itx_halving.proofs.Step.{none, all}
+use Rattle.itx_lanes.proofs.level16.level16.Statement.{statement}
+use Rattle.itx_lanes.proofs.level16.level16.Tie as tie
+
+table-requires : tie.Need-table-requires
+table-requires c κs = tt
+
+rows16-0-requires : tie.Need-rows16-0-requires
+rows16-0-requires c κs = let s = c .before .before .before in (c .before .before .table .ensures, record { level = record { narrow = s .pre .0 .narrow; whole = refl; size = lit≤ tt; room = s .pre .1 }; part = λ j h. none (s .pre .0 .sums j h) })
+
+same-length : tie.Need-same-length
+same-length c = c .before .rows16-0 .kept .1 .1 .0
+
+returns : tie.Need-returns
+returns c = record { narrow = c .before .rows16-0 .ensures .level .narrow; sums = λ j h. all (c .before .rows16-0 .ensures .part j h) }
+
+pub level16-spec : {M : Type 1} → statement M
+level16-spec =
+    tie.close
+    (tie.spec
+    table-requires
+    rows16-0-requires
+    same-length
+    returns)

@@ -1,0 +1,23 @@
+-- `itx_lanes::sums::sums16` meets its contract: level after level. Assumes nothing.
+use borrow.Author.Needs.{needs}
+use mathlib.Core.Path.{_≡_, refl}
+use lib.Dec.{lit<, lit≤}
+use lib.ListN.{length}
+use Rattle.itx_lanes.proofs.Passes.{sums-are}
+use Rattle.itx_lanes.proofs.sums.sums16.Statement.{statement}
+use Rattle.itx_lanes.proofs.sums.sums16.Tie as tie
+
+narrow-requires : tie.Need-narrow-requires
+narrow-requires c κs = tt
+
+base-requires : tie.Need-base-requires
+base-requires c κs = search needs
+
+level8-requires : tie.Need-level8-requires
+level8-requires c κs = search needs
+
+returns : tie.Need-returns
+returns c = sums-are 16 refl (lit< tt) (lit≤ tt) _ _ (search needs) (c .level8 .ensures)
+
+pub sums16-spec : {M : Type 1} → statement M
+sums16-spec = tie.close (tie.spec narrow-requires base-requires level8-requires returns)

@@ -1,0 +1,49 @@
+-- `itx_lines::built_in::built_in64` meets its contract: document 01's table is an instance, and both tables are the one. Assumes nothing.
+use borrow.Author.Needs.{needs}
+use mathlib.Core.Path.{_≡_, refl, sym, _∙_, subst}
+use mathlib.Core.List.{List}
+use native.Mathlib.Omega.{arith}
+use lib.IntN.{ℤ}
+use Rattle.itx_halving.specs.Line.{rows, Sums}
+use Rattle.itx_halving.proofs.Step.{none, all, level-at}
+use Rattle.itx_halving.proofs.Instance.{built-in-table, built-in-sums}
+use Rattle.itx_lines.proofs.built_in.built_in64.Statement.{statement}
+use Rattle.itx_lines.proofs.built_in.built_in64.Tie as tie
+
+-- the same sums, by an equal table
+same : {e x : List ℤ} (t u : List ℤ) → u ≡ t → Sums e (rows u 64) 2 32 x → Sums e (rows t 64) 2 32 x
+same {e} {x} t u p s = subst (λ (l : List ℤ). Sums e (rows l 64) 2 32 x) p s
+
+table-requires : tie.Need-table-requires
+table-requires c κs = search needs
+
+slice-aggregate-half64 : tie.Need-slice-aggregate-half64
+slice-aggregate-half64 c = search needs
+
+half64-requires : tie.Need-half64-requires
+half64-requires c κs =
+    let s = c .before .before .before .before in ((built-in-table 6 (omega arith) (c .before .before .before .table .result) (c .before .before .before .table .ensures), s .pre .1 .0), s .pre .1 .1)
+
+steps-requires : tie.Need-steps-requires
+steps-requires c κs =
+    let s = c .before .before .before .before .before .before .before .before .before in (
+      (level-at (built-in-table 6 (omega arith) (s .args .t .now) (s .pre .0)) (s .pre .1 .0) 32 1 refl (omega arith) (omega arith), (omega arith, omega arith)),
+      none (same (s .args .t .now) (c .before .before .before .before .before .before .before .before .table .result) (c .before .before .before .before .before .before .before .before .table .ensures ∙ sym (s .pre .0)) (c .before .before .before .before .half64 .ensures)),
+    )
+
+same-length : tie.Need-same-length
+same-length c = search needs
+
+returns : tie.Need-returns
+returns c = let s = c .before .before .before .before .before .before .before .before .before .before .before in built-in-sums 6 (omega arith) (s .args .t .now) (s .pre .0) (all (c .before .steps .ensures))
+
+pub built-in64-spec : {M : Type 1} → statement M
+built-in64-spec =
+    tie.close
+    (tie.spec
+    table-requires
+    slice-aggregate-half64
+    half64-requires
+    steps-requires
+    same-length
+    returns)

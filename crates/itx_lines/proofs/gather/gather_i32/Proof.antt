@@ -1,0 +1,102 @@
+-- `itx_lines::gather::gather_i32` meets its contract: input after input. Assumes nothing.
+use borrow.Author.Needs.{sfits-of}
+use mathlib.Core.Path.{sym, _∙_, subst}
+use mathlib.Core.List.{[], _∷_}
+use Prim.Native.Nat.{ℕ, _+_, _*_, _-_, _≤_, _<_}
+use native.Mathlib.Omega.{arith}
+use lib.ListN.{length, getD}
+use lib.IntN.{ℤ, pos, natAbs}
+use mir.Syntax.{w32, w64}
+use mir.Val.{SFits}
+use Rattle.integers.proofs.Bound.{within-sfits, within-mono}
+use Rattle.integers.proofs.Expr.{var, loc, Known, arg, env, fit, reads}
+use Rattle.itx_halving.specs.Lines.{Gathered}
+use Rattle.itx_halving.proofs.Lines.{place, gathered-none, gathered-more}
+use Rattle.itx_lines.proofs.gather.gather_i32.Statement.{statement}
+use Rattle.itx_lines.proofs.gather.gather_i32.Tie as tie
+
+abbrev Inv-loop : tie.InvT-loop
+Inv-loop src x₀ n l j k₀ x k = (k ≤ n) × Gathered x src n k l j
+
+abbrev μ-loop : tie.MeasureT-loop
+μ-loop src x₀ n l j k₀ x k = n - k
+
+within : (c : tie.In-loop Inv-loop μ-loop) → c .before .loop .i * c .before .before .args .l + c .before .before .args .j < length (c .before .before .args .src .now)
+within c =
+    let a = c .before .before .args in
+    place (c .before .loop .i) (a .l) (a .j) (a .n) _ (c .loop-test .taken) (c .before .before .pre .1 .0) (c .before .before .pre .1 .1)
+
+module _ (c : tie.After-x Inv-loop μ-loop) where
+  abbrev val : ℤ
+  val = getD (c .before .before .before .args .src .now) (c .before .before .loop .i * c .before .before .before .args .l + c .before .before .before .args .j) (pos 0)
+
+  fits : SFits w32 val
+  fits = sfits-of (c .x .given)
+
+  abbrev known : ℕ → Known
+  known = env (arg w32 val fits ∷ [])
+
+loop-holds : tie.Need-loop-holds Inv-loop μ-loop
+loop-holds c = (omega arith, gathered-none (c .pre .0))
+
+mul-x : tie.Need-mul-x Inv-loop μ-loop
+mul-x c = omega (arith, within c)
+
+add-x : tie.Need-add-x Inv-loop μ-loop
+add-x c = omega (arith, within c)
+
+mul-x-2 : tie.Need-mul-x-2 Inv-loop μ-loop
+mul-x-2 c = omega (arith, within c)
+
+shared-slice-copy-out-x : tie.Need-shared-slice-copy-out-x Inv-loop μ-loop
+shared-slice-copy-out-x c = within c
+
+cast-x : tie.Need-cast-x Inv-loop μ-loop
+cast-x c = fit (known c) w64 (var 0) tt
+
+mul-t14 : tie.Need-mul-t14 Inv-loop μ-loop
+mul-t14 c = omega (arith, c .before .before .loop .inv .1 .long)
+
+slice-set-from-x : tie.Need-slice-set-from-x Inv-loop μ-loop
+slice-set-from-x c = omega (arith, c .before .before .loop .inv .1 .long)
+
+add-i : tie.Need-add-i Inv-loop μ-loop
+add-i c = omega arith
+
+loop-less : tie.Need-loop-less Inv-loop μ-loop
+loop-less c = omega arith
+
+loop-again : tie.Need-loop-again Inv-loop μ-loop
+loop-again c = (
+  omega arith,
+  gathered-more _ (c .before .before .loop .inv .1) (c .before .loop-test .taken) (reads (known c) (loc w64 (var 0)) tt)
+      (subst (λ (z : ℤ). natAbs z ≤ 2147483648) (sym (reads (known c) (loc w64 (var 0)) tt)) (within-mono (omega arith) (within-sfits (fits c)) .bound)),
+)
+
+same-length : tie.Need-same-length Inv-loop μ-loop
+same-length c = c .before .loop .inv .1 .long ∙ sym (c .before .before .pre .0)
+
+returns : tie.Need-returns Inv-loop μ-loop
+returns c =
+    let a = c .before .before .args in
+    subst (λ (k : ℕ). Gathered (c .before .loop .x) (a .src .now) (a .n) k (a .l) (a .j)) (omega arith) (c .before .loop .inv .1)
+
+pub gather-i32-spec : {M : Type 1} → statement M
+gather-i32-spec =
+    tie.close
+    (tie.spec
+    Inv-loop
+    μ-loop
+    loop-holds
+    mul-x
+    add-x
+    mul-x-2
+    shared-slice-copy-out-x
+    cast-x
+    mul-t14
+    slice-set-from-x
+    add-i
+    loop-less
+    loop-again
+    same-length
+    returns)

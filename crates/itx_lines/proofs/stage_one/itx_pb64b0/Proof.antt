@@ -1,0 +1,99 @@
+-- `itx_lines::stage_one::itx_pb64b0` meets its contract: line after line, each gathered, summed, stored. Assumes nothing.
+use borrow.Author.Needs.{needs}
+use mathlib.Core.Path.{_≡_, refl, sym}
+use Prim.Native.Nat.{ℕ, _*_, _-_, _≤_}
+use native.Mathlib.Omega.{arith}
+use lib.IntN.{ℤ}
+use Rattle.integers.specs.Z.{clip32}
+use Rattle.integers.specs.Lists.{written}
+use Rattle.evc.specs.Table.{tm}
+use Rattle.evc.specs.Stages.{stageOneAt}
+use Rattle.itx_halving.proofs.Lines.{inputs, lined, room-of, lines-none, lines-more, lines-length, lines-all}
+use Rattle.itx_lines.proofs.stage_one.itx_pb64b0.Statement.{statement}
+use Rattle.itx_lines.proofs.stage_one.itx_pb64b0.Tie as tie
+
+abbrev Inv-loop : tie.InvT-loop
+Inv-loop src dst₀ l t j₀ dst j = (j ≤ l) × (dst ≡ written (j * 64) (stageOneAt (tm 64) 64 l src) dst₀)
+
+abbrev μ-loop : tie.MeasureT-loop
+μ-loop src dst₀ l t j₀ dst j = l - j
+
+-- what the stage leaves
+abbrev left : tie.Start Inv-loop μ-loop → ℕ → ℤ
+left s = stageOneAt (tm 64) 64 (s .args .l) (s .args .src .now)
+
+table-requires : tie.Need-table-requires Inv-loop μ-loop
+table-requires c κs = tt
+
+loop-holds : tie.Need-loop-holds Inv-loop μ-loop
+loop-holds c = let s = c .before in (omega arith, lines-none (left s) (s .args .dst .now) 64)
+
+slice-aggregate-gather-i16 : tie.Need-slice-aggregate-gather-i16 Inv-loop μ-loop
+slice-aggregate-gather-i16 c = refl
+
+gather-i16-requires : tie.Need-gather-i16-requires Inv-loop μ-loop
+gather-i16-requires c κs =
+    let s = c .before .before .before .before in (refl, (c .before .loop-test .taken, s .pre .src-room))
+
+slice-aggregate-built-in64 : tie.Need-slice-aggregate-built-in64 Inv-loop μ-loop
+slice-aggregate-built-in64 c = refl
+
+built-in64-requires : tie.Need-built-in64-requires Inv-loop μ-loop
+built-in64-requires c κs = (c .before .before .before .before .before .before .before .before .table .ensures, (inputs (c .before .before .before .before .gather-i16 .ensures) (omega arith), refl))
+
+slice-aggregate-store-i32 : tie.Need-slice-aggregate-store-i32 Inv-loop μ-loop
+slice-aggregate-store-i32 c = sym (c .before .before .built-in64 .ensures .long)
+
+store-i32-requires : tie.Need-store-i32-requires Inv-loop μ-loop
+store-i32-requires c κs =
+    let s = c .before .before .before .before .before .before .before .before .before .before .before .before .before in
+    let l = c .before .before .before .before .before .before .before .before .before .before .before .loop in
+    (omega (arith, c .before .before .before .built-in64 .ensures .long), room-of (l .dst) 64 (s .args .l) (l .j) (lines-length (left s) (s .args .dst .now) 64 (s .args .l) (l .j) (l .inv .0) (s .pre .dst-room) (l .inv .1)) (c .before .before .before .before .before .before .before .before .before .before .loop-test .taken) (s .pre) .dst-room)
+
+add-j : tie.Need-add-j Inv-loop μ-loop
+add-j c = omega (arith, c .before .before .before .before .before .before .before .before .before .before .before .before .loop-test .taken)
+
+loop-less : tie.Need-loop-less Inv-loop μ-loop
+loop-less c = omega (arith, c .before .before .before .before .before .before .before .before .before .before .before .before .loop-test .taken)
+
+loop-again : tie.Need-loop-again Inv-loop μ-loop
+unfolding stageOneAt
+loop-again c =
+    let s = c .before .before .before .before .before .before .before .before .before .before .before .before .before .before .before in
+    let l = c .before .before .before .before .before .before .before .before .before .before .before .before .before .loop in (
+      omega (arith, c .before .before .before .before .before .before .before .before .before .before .before .before .loop-test .taken),
+      lines-more (left s) (s .args .dst .now) 64 (s .args .l) (l .j) (c .before .before .before .before .before .before .before .before .before .before .before .before .loop-test .taken) (s .pre .dst-room) (l .inv .1)
+          (lined clip32 (tm 64) 64 (s .args .l) (l .j) (s .args .src .now) (c .before .before .before .before .before .before .before .before .before .before .gather-i16 .ensures) (c .before .before .before .before .before .built-in64 .ensures) (c .before .store-i32 .ensures)),
+    )
+
+same-length : tie.Need-same-length Inv-loop μ-loop
+same-length c =
+    let s = c .before .before .before in
+    let l = c .before .loop in
+    lines-length (left s) (s .args .dst .now) 64 (s .args .l) (l .j) (l .inv .0) (s .pre .dst-room) (l .inv .1)
+
+returns : tie.Need-returns Inv-loop μ-loop
+returns c =
+    let s = c .before .before .before in
+    let l = c .before .loop in
+    lines-all (left s) (s .args .dst .now) 64 (s .args .l) (l .j) (omega (arith, l .inv .0, c .loop-test .left)) (l .inv .1)
+
+pub itx-pb64b0-spec : {M : Type 1} → statement M
+itx-pb64b0-spec =
+    tie.close
+    (tie.spec
+    Inv-loop
+    μ-loop
+    table-requires
+    loop-holds
+    slice-aggregate-gather-i16
+    gather-i16-requires
+    slice-aggregate-built-in64
+    built-in64-requires
+    slice-aggregate-store-i32
+    store-i32-requires
+    add-j
+    loop-less
+    loop-again
+    same-length
+    returns)

@@ -1,0 +1,123 @@
+-- `job::evc_itdq_job` meets its contract: an accepted job's area is inside the buffer, and lent whole, to the dequantizer and to both
+-- stages. Assumes nothing.
+use mathlib.Core.Path.{_≡_, sym, _∙_}
+use native.Mathlib.Omega.{arith}
+use Prim.Native.Nat.{_+_, _≤_}
+use lib.ListN.{length}
+use mir.Syntax.{w32}
+use mir.Val.{toZ, ofZ}
+use Rattle.evc.specs.Dequantizer.{scale}
+use Rattle.evc.specs.Jobs.{jobNumber}
+use Rattle.evc.proofs.Jobs.{accepted}
+use Rattle.evc.proofs.AnyOrder.{refused-unchanged}
+use Rattle.evc.proofs.Matches.{is-done, not-done}
+use Rattle.scaling.proofs.Scales.{scale-known}
+use Rattle.job.proofs.Areas.{logs-sum, size, area-inside, lent-done}
+use borrow.Author.Needs.{needs}
+use Rattle.job.proofs.evc_itdq_job.Statement.{statement}
+use Rattle.job.proofs.evc_itdq_job.Tie as tie
+
+of-job-requires : tie.Need-of-job-requires
+of-job-requires c κs = search needs
+
+enum-told : tie.Need-enum-told
+enum-told c = search needs
+
+returns : tie.Need-returns
+returns c =
+    let start = c .before .before .before in
+    let t = c .before .before .of-job in (
+      t .ensures,
+      sym (refused-unchanged (start .args .coef .now) (start .args .job) (λ z. not-done (t .result) (c .before .match .keys1) (t .ensures ∙ z))),
+    )
+
+enum-told-2 : tie.Need-enum-told-2
+enum-told-2 c = search needs
+
+-- ---- where the tests have passed
+module _ (c : tie.After-struct-known) where
+  abbrev start : tie.Start
+  start = c .before .before .before .before .before
+
+  passed : jobNumber (length (start .args .coef .now)) (start .args .job) ≡ 0
+  passed = let t = c .before .before .before .before .of-job in sym (t .ensures) ∙ is-done (t .result) (c .before .before .before .match .keys2)
+
+  sum : start .args .job .«log2_w» + start .args .job .«log2_h» ≤ 12
+  sum = logs-sum (start .args .coef .now) (start .args .job) passed
+
+  inside : start .args .job .start + size (start .args .job) ≤ length (start .args .coef .now)
+  inside = area-inside (start .args .coef .now) (start .args .job) passed
+
+  by : toZ w32 (ofZ w32 (c .before .scale-of .result)) ≡ scale (start .args .job .qp)
+  by =
+      let r = c .before .scale-of .result in
+      let g : toZ w32 (ofZ w32 r) ≡ r = search needs in
+      g ∙ c .before .scale-of .ensures ∙ scale-known _ (accepted _ _ passed .qp63)
+
+  off : toZ w32 (ofZ w32 (start .args .job .offset)) ≡ start .args .job .offset
+  off = search needs
+
+scale-of-requires : tie.Need-scale-of-requires
+scale-of-requires c κs = search needs
+
+add-end : tie.Need-add-end
+add-end c = omega (arith, sum c)
+
+shl-end : tie.Need-shl-end
+shl-end c = omega (arith, sum c)
+
+add-end-2 : tie.Need-add-end-2
+add-end-2 c = omega (arith, inside c, start c .good .0 .1)
+
+mul-part : tie.Need-mul-part
+mul-part c = omega (arith, inside c, start c .good .0 .1)
+
+sub-part : tie.Need-sub-part
+sub-part c = search needs
+
+part-part-start : tie.Need-part-part-start
+part-part-start c = search needs
+
+part-part-end : tie.Need-part-part-end
+part-part-end c = omega (arith, inside c)
+
+evc-dquant-requires : tie.Need-evc-dquant-requires
+evc-dquant-requires c κs = search needs
+
+-- ---- where the dequantizer has done its part
+abbrev known : tie.After-part2 → tie.After-struct-known
+known c = c .before .before .before .before .before
+
+both-stages-requires : tie.Need-both-stages-requires
+both-stages-requires c κs = search needs
+
+same-length : tie.Need-same-length
+same-length c = search needs
+
+returns-2 : tie.Need-returns-2
+returns-2 c =
+    let k = known (c .before .before) in (
+      sym (passed k),
+      lent-done (start k .args .coef .now) (start k .args .job) (passed k) _ _ _ (by k) (off k) (c .before .before .before .evc-dquant .ensures .1) _ (c .before .both-stages .ensures),
+    )
+
+pub evc-itdq-job-spec : {M : Type 1} → statement M
+evc-itdq-job-spec =
+    tie.close
+    (tie.spec
+    of-job-requires
+    enum-told
+    returns
+    enum-told-2
+    scale-of-requires
+    add-end
+    shl-end
+    add-end-2
+    mul-part
+    sub-part
+    part-part-start
+    part-part-end
+    evc-dquant-requires
+    both-stages-requires
+    same-length
+    returns-2)

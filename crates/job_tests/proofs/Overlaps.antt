@@ -1,0 +1,69 @@
+-- Laws of the pairs: the two tests of `runs_meet` say whether two runs share a sample; areas are runs; what a pair adds to the rest.
+-- Assumes nothing.
+use Prim.Native.Nat.{ℕ, _+_, _-_, _≤_, _<_}
+use native.Mathlib.Omega.{arith}
+use lib.Pow.{pow-pos}
+use mathlib.Core.Path.{_≡_, refl, sym, ap, _∙_}
+use mathlib.Core.Logic.{_⊎_, inl, inr, ⊎-elim}
+use mathlib.Core.Bool.{Bool, true, false, _&&_, true≢false, false≢true}
+use mathlib.Core.List.{List, [], _∷_}
+use lib.Dec.{ltb}
+use borrow.Author.Tests.{ltb-true, ltb-false}
+use Rattle.order.specs.Positions.{row, shared}
+use Rattle.order.proofs.Rows.{shared-row-none}
+use Rattle.evc.specs.declared.Job.{Job}
+use Rattle.evc.specs.declared.Component.{Component}
+use Rattle.evc.specs.Answers.{SubReply, refusedAt}
+use Rattle.evc.specs.Tests.{first, samplesOf}
+use Rattle.evc.specs.Jobs.{area}
+use Rattle.evc.specs.SubBlocks.{isSome, overlap, orElse}
+use Rattle.job_tests.proofs.Areas.{area-run}
+
+some-or-none : (l : List ℕ) → (l ≡ [] → ⊥) → isSome l ≡ true
+some-or-none [] h = absurd (h refl)
+some-or-none (p ∷ l) h = refl
+
+none : (l : List ℕ) → isSome l ≡ false → l ≡ []
+none [] e = refl
+none (p ∷ l) e = absurd (true≢false e)
+
+-- a test that fails exactly where one run ends before the other begins
+module _ (a m b k : ℕ) (u : 1 ≤ m) (v : 1 ≤ k) where
+  meets-as : (t : Bool) → (t ≡ true → (a + m ≤ b) ⊎ (b + k ≤ a) → ⊥) → (t ≡ false → (a + m ≤ b) ⊎ (b + k ≤ a)) → t ≡ isSome (shared (row a m) (row b k))
+  meets-as true f g = sym (some-or-none (shared (row a m) (row b k)) (λ e. f refl (shared-row-none a m b k u v .0 e)))
+  meets-as false f g = sym (ap isSome (shared-row-none a m b k u v .1 (g refl)))
+
+pub first-lower : (a m b k : ℕ) → a < b → 1 ≤ m → 1 ≤ k → ltb (b - a) m ≡ isSome (shared (row a m) (row b k))
+first-lower a m b k h u v =
+    meets-as a m b k u v (ltb (b - a) m)
+    (λ t. let l = ltb-true (b - a) m t in ⊎-elim (λ q. omega arith) (λ q. omega arith))
+    (λ t. let l = ltb-false (b - a) m t in inl (omega arith))
+
+pub second-lower : (a m b k : ℕ) → b ≤ a → 1 ≤ m → 1 ≤ k → ltb (a - b) k ≡ isSome (shared (row a m) (row b k))
+second-lower a m b k h u v =
+    meets-as a m b k u v (ltb (a - b) k)
+    (λ t. let l = ltb-true (a - b) k t in ⊎-elim (λ q. omega arith) (λ q. omega arith))
+    (λ t. let l = ltb-false (a - b) k t in inr (omega arith))
+
+-- m and n are the sizes of two jobs, and r says whether their runs meet, as the code has it
+pub jobs-meet : (j k : Job) (m n : ℕ) (r : Bool) → m ≡ samplesOf (j .«log2_w») (j .«log2_h») → n ≡ samplesOf (k .«log2_w») (k .«log2_h»)
+    → (1 ≤ m → 1 ≤ n → r ≡ isSome (shared (row (j .start) m) (row (k .start) n))) → r ≡ isSome (shared (area j) (area k))
+jobs-meet j k m n r em en h = h (rw em (pow-pos _)) (rw en (pow-pos _)) ∙ rw (area-run j, area-run k, em, en)
+
+-- ---- a pair of which r says whether both jobs share a sample, where both are wanted
+module _ (c : Component) (one other r : Bool) (j k : Job) (rest : SubReply) (h : one ≡ true → other ≡ true → r ≡ isSome (shared (area j) (area k))) where
+  pub pair-here : one && other && r ≡ true → refusedAt c 6 ≡ orElse (one && other) c (first (overlap j k ∷ [])) rest
+  pair-here = go one other h
+    where
+      go : (s t : Bool) → (s ≡ true → t ≡ true → r ≡ isSome (shared (area j) (area k))) → s && t && r ≡ true → refusedAt c 6 ≡ orElse (s && t) c (first (overlap j k ∷ [])) rest
+      go true true f e = let p = sym (f refl refl) ∙ e in rw p
+      go true false f e = absurd (false≢true e)
+      go false t f e = absurd (false≢true e)
+
+  pub pair-rest : one && other && r ≡ false → rest ≡ orElse (one && other) c (first (overlap j k ∷ [])) rest
+  pair-rest = go one other h
+    where
+      go : (s t : Bool) → (s ≡ true → t ≡ true → r ≡ isSome (shared (area j) (area k))) → s && t && r ≡ false → rest ≡ orElse (s && t) c (first (overlap j k ∷ [])) rest
+      go true true f e = let p = sym (f refl refl) ∙ e in rw p
+      go true false f e = refl
+      go false t f e = refl

@@ -1,2 +1,0 @@
--- What a caller is told.
-pub mod Told

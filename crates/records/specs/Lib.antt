@@ -1,2 +1,0 @@
--- What a caller hands in.
-pub mod Given

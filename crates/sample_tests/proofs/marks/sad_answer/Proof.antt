@@ -1,0 +1,67 @@
+-- `sample_tests::marks::sad_answer` meets its contract. Assumes nothing.
+use mathlib.Core.Path.{_≡_, sym, _∙_}
+use mathlib.Core.Bool.{false}
+use Prim.Native.Nat.{_-_, _/_, _^_, _≤_}
+use native.Mathlib.Omega.{arith}
+use lib.Dec.{leb}
+use borrow.Author.Needs.{needs}
+use borrow.Author.Tests.{lt-ltb, le-ltb, le-leb, lt-leb}
+use Rattle.integers.proofs.Bits.{div-some, div-none}
+use Rattle.evc.specs.Tests.{outside}
+use Rattle.evc.proofs.Tests.{outside-no}
+use Rattle.sample_tests.specs.Marks.{in32}
+use Rattle.sample_tests.proofs.marks.sad_answer.Statement.{statement}
+use Rattle.sample_tests.proofs.marks.sad_answer.Tie as tie
+
+bad-depth-requires : tie.Need-bad-depth-requires
+bad-depth-requires c κs = search needs
+
+returns : tie.Need-returns
+returns c = rw (sym (c .before .bad-depth .ensures) ∙ c .if1 .taken)
+
+-- the depth is allowed from here on
+deep : (c : tie.Else1) → outside 8 14 (c .before .before .args .depth) ≡ false
+deep c = sym (c .before .bad-depth .ensures) ∙ c .if1 .left
+
+allowed : (c : tie.Else1) → (8 ≤ c .before .before .args .depth) × (c .before .before .args .depth ≤ 14)
+allowed c = outside-no 8 14 (c .before .before .args .depth) (deep c)
+
+shr-if2 : tie.Need-shr-if2
+shr-if2 c = omega (arith, allowed c .1)
+
+returns-2 : tie.Need-returns-2
+returns-2 c =
+    let a = c .before .before .before .args in
+    rw (deep (c .before), le-leb (2 ^ a .depth) (a .any) (div-some (a .any) (a .depth) (c .if2 .taken)))
+
+-- nor does a mark reach it
+marked : (c : tie.Else2) → let a = c .before .before .before .args in leb (2 ^ a .depth) (a .any) ≡ false
+marked c = let a = c .before .before .before .args in lt-leb (2 ^ a .depth) (a .any) (div-none (a .any) (a .depth) (c .if2 .left))
+
+sub-sad : tie.Need-sub-sad
+sub-sad c = omega (arith, allowed (c .before) .0)
+
+cast-sad : tie.Need-cast-sad
+cast-sad c = omega (arith, allowed (c .before) .1)
+
+shr-sad : tie.Need-shr-sad
+shr-sad c = omega (arith, allowed (c .before) .1)
+
+returns-3 : tie.Need-returns-3
+unfolding in32
+returns-3 c =
+    let a = c .before .before .before .before .args in
+    rw (deep (c .before .before), marked (c .before), lt-ltb 4294967295 (a .sum / 2 ^ (a .depth - 8)) (c .if3 .taken))
+
+cast-value : tie.Need-cast-value
+cast-value c = omega arith
+
+returns-4 : tie.Need-returns-4
+unfolding in32
+returns-4 c =
+    let a = c .before .before .before .before .args in
+    rw (deep (c .before .before), marked (c .before), le-ltb 4294967295 (a .sum / 2 ^ (a .depth - 8)) (c .if3 .left))
+
+pub sad-answer-spec : {M : Type 1} → statement M
+sad-answer-spec =
+    tie.close (tie.spec bad-depth-requires returns shr-if2 returns-2 sub-sad cast-sad shr-sad returns-3 cast-value returns-4)
