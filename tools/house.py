@@ -97,7 +97,7 @@ def picture(all_):
 def faults(all_):
     if not PICTURE.exists() or PICTURE.read_text() != picture(all_):
         yield "docs/house.svg is not the picture of crates.txt: run tools/house.py"
-    rows = re.findall(r"^\| \[?`?([a-z0-9_]+)`?\]?", PAGE.read_text(), re.M)
+    rows = re.findall(r"^\| \[([a-z0-9_]+)\]\(\.\./crates/", PAGE.read_text(), re.M)
     for c in all_:
         if rows.count(c) != 1:
             yield f"docs/HOUSE.md has {rows.count(c)} rows for the crate {c}"
