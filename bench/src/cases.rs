@@ -13,6 +13,7 @@ pub struct Side {
     /// a call: its value, 0 for a kernel without one, or `refused`
     pub call: Box<dyn Fn() -> i64>,
     /// the call alone, its answer given up
+    #[cfg_attr(not(target_arch = "x86_64"), allow(dead_code))] // only instructions are counted by it
     pub once: Box<dyn Fn()>,
     /// so many times a refill and a call
     pub batch: Box<dyn Fn(usize)>,
