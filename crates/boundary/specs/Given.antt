@@ -1,16 +1,10 @@
--- Numbers as what the definitions take. Cited by the contracts of src/jobs.rt and src/sub_blocks.rt, and by the exports. Assumes nothing.
+-- Numbers as what the definitions take. Cited by the contracts of src/sub_blocks.rt, and by the exports. Assumes nothing.
 use Prim.Native.Nat.{ℕ}
 use mathlib.Core.Bool.{not}
 use lib.Dec.{eqb}
 use lib.IntN.{ℤ}
 use Rattle.evc.specs.declared.Part.{Part}
 use Rattle.evc.specs.declared.SubBlock.{SubBlock}
-use Rattle.evc.specs.declared.Job.{Job}
-
--- a job, by its numbers in their order
-abbrev pub jobOf : ℕ → ℕ → ℕ → ℕ → ℤ → ℕ → ℕ → Job
-jobOf start logw logh qp offset dqshift itshift =
-    record { start = start; «log2_w» = logw; «log2_h» = logh; qp = qp; offset = offset; «dq_shift» = dqshift; «it_shift» = itshift }
 
 -- a component: its flag is set where the number is not 0
 abbrev pub partOf : ℕ → ℕ → ℕ → Part

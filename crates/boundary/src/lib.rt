@@ -1,12 +1,10 @@
-// Where the calls meet C: the records that a call takes, made of the numbers that C hands in; an answer as the paper's number, and what it holds
-// besides into a caller's place.
+// Where the calls meet C: the record that a sub-block call takes, made of the numbers that C hands in; an answer as the paper's number, and what it
+// holds besides into a caller's place.
 mod answers;
-mod jobs;
 mod sub_blocks;
 
 pub use answers::answer_number;
 pub use answers::tell_distortion;
 pub use answers::tell_squared;
 pub use answers::tell_sub_block;
-pub use jobs::job;
 pub use sub_blocks::sub_block;

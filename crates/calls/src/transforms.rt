@@ -29,7 +29,7 @@ fn sub_block(c: Call, coef: &mut [i16]) {
 
 fn job(c: Call, coef: &mut [i16]) -> Answer {
     let n = c.n;
-    let job = boundary::job(
+    let job = evc::job_of(
         n[0],
         n[1],
         n[2],

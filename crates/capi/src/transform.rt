@@ -3,8 +3,7 @@ ghost use mathlib.Core.Path.{_≡_};
 ghost use lib.ListN.{length};
 ghost use Rattle.evc.specs.Dequantizer.{dquantNumber, dquantExit};
 ghost use Rattle.evc.specs.Stages.{stageOneNumber, stageTwoNumber, itxb0Exit, itxb1Exit};
-ghost use Rattle.evc.specs.Jobs.{jobNumber, jobExit};
-ghost use Rattle.boundary.specs.Given.{jobOf};
+ghost use Rattle.evc.specs.Jobs.{jobOf, jobNumber, jobExit};
 use boundary::answer_number;
 
 #[no_mangle]
@@ -58,6 +57,6 @@ pub extern "C" fn tv_job(
     ensures number { λ r. ⌜ r ≡ jobNumber (length (now (coef .entry))) (jobOf start «log2_w» «log2_h» qp offset «dq_shift» «it_shift») ⌝ }
     ensures exit { λ r. ⌜ now (coef .exit) ≡ jobExit (jobOf start «log2_w» «log2_h» qp offset «dq_shift» «it_shift») (now (coef .entry)) ⌝ }
 {
-    let job = boundary::job(start, log2_w, log2_h, qp, offset, dq_shift, it_shift);
+    let job = evc::job_of(start, log2_w, log2_h, qp, offset, dq_shift, it_shift);
     answer_number(job::evc_itdq_job(coef, job))
 }

@@ -13,6 +13,11 @@ use Rattle.evc.specs.Table.{tm}
 use Rattle.evc.specs.Dequantizer.{scale, dequantized}
 use Rattle.evc.specs.Stages.{stageOne, stageTwo}
 
+-- a job, by its numbers in their order
+abbrev pub jobOf : ℕ → ℕ → ℕ → ℕ → ℤ → ℕ → ℕ → Job
+jobOf start logw logh qp offset dqshift itshift =
+    record { start = start; «log2_w» = logw; «log2_h» = logh; qp = qp; offset = offset; «dq_shift» = dqshift; «it_shift» = itshift }
+
 abbrev pub width : Job → ℕ
 width j = 2 ^ j .«log2_w»
 

@@ -10,7 +10,7 @@ use Rattle.evc.specs.Answers.{Reply, value, refused}
 use Rattle.evc.specs.Planes.{Plane, packed}
 use Rattle.evc.specs.Dequantizer.{scaleReply, dequantized}
 use Rattle.evc.specs.Stages.{itxb0Exit, itxb1Exit}
-use Rattle.evc.specs.Jobs.{jobNumber, jobExit}
+use Rattle.evc.specs.Jobs.{jobOf, jobNumber, jobExit}
 use Rattle.evc.specs.Calls.{satd16b, ssd16b, sad16i}
 
 abbrev minus : ℕ → ℤ
@@ -18,7 +18,7 @@ minus n = negℤ (pos n)
 
 -- a job of 2 by 2 at the buffer's start
 abbrev small : Job
-small = record { start = 0; «log2_w» = 1; «log2_h» = 1; qp = 4; offset = pos 32; «dq_shift» = 6; «it_shift» = 12 }
+small = jobOf 0 1 1 4 (pos 32) 6 12
 
 -- SATD at depth 8 of w by h samples that are all 1 against samples that are all 0
 abbrev flat : ℕ → ℕ → ℕ → Reply ℕ

@@ -15,32 +15,14 @@ use Rattle.evc.specs.declared.Component.the-variants.{Y, U, «V»}
 use Rattle.evc.specs.declared.Refusal.the-variants.{Overlap}
 use Rattle.evc.specs.Answers.{number, SubReply, accepted, refusedAt}
 use Rattle.evc.specs.Tests.{Test, _when_}
-use Rattle.evc.specs.Jobs.{area, testsAs, blockJobs}
+use Rattle.evc.specs.Jobs.{jobOf, area, testsAs, blockJobs}
 
 -- the job of a component: luma's logs, and one less in both directions for chroma (0 - 1 is 0 here: such a call is SIZE below)
 abbrev pub luma : SubBlock → Part → Job
-luma s c =
-    record {
-      start = c .start;
-      «log2_w» = s .«log2_w»;
-      «log2_h» = s .«log2_h»;
-      qp = c .qp;
-      offset = s .offset;
-      «dq_shift» = s .«dq_shift»;
-      «it_shift» = s .«it_shift»;
-    }
+luma s c = jobOf (c .start) (s .«log2_w») (s .«log2_h») (c .qp) (s .offset) (s .«dq_shift») (s .«it_shift»)
 
 abbrev pub chroma : SubBlock → Part → Job
-chroma s c =
-    record {
-      start = c .start;
-      «log2_w» = s .«log2_w» - 1;
-      «log2_h» = s .«log2_h» - 1;
-      qp = c .qp;
-      offset = s .offset;
-      «dq_shift» = s .«dq_shift»;
-      «it_shift» = s .«it_shift»;
-    }
+chroma s c = jobOf (c .start) (s .«log2_w» - 1) (s .«log2_h» - 1) (c .qp) (s .offset) (s .«dq_shift») (s .«it_shift»)
 
 -- a component's tests on a buffer of n samples. Logs are tested as handed in, so that chroma's limits are 2 and 7
 abbrev pub lumaTests : ℕ → SubBlock → Part → List Test

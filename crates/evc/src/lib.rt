@@ -1,5 +1,7 @@
 // What code and definitions share: the job, the sub-block, the components, the refusals and the answers.
 // Their readings, the paper's numbers and values, stand in specs/.
+ghost use mathlib.Core.Path.{_≡_};
+ghost use Rattle.evc.specs.Jobs.{jobOf};
 
 // One block job: where its samples start in the buffer, the logarithms of its sides, and its numbers.
 pub struct Job {
@@ -10,6 +12,29 @@ pub struct Job {
     pub offset: i32,
     pub dq_shift: u8,
     pub it_shift: u8,
+}
+
+// Every job is made here.
+pub fn job_of(
+    start: usize,
+    log2_w: usize,
+    log2_h: usize,
+    qp: u8,
+    offset: i32,
+    dq_shift: u8,
+    it_shift: u8,
+) -> Job
+    ensures { λ r. ⌜ r ≡ jobOf start «log2_w» «log2_h» qp offset «dq_shift» «it_shift» ⌝ }
+{
+    Job {
+        start: start,
+        log2_w: log2_w,
+        log2_h: log2_h,
+        qp: qp,
+        offset: offset,
+        dq_shift: dq_shift,
+        it_shift: it_shift,
+    }
 }
 
 // What a component of a sub-block has of its own.

@@ -6,6 +6,7 @@ ghost use Rattle.evc.specs.SubBlocks.{luma, chroma};
 use evc::Job;
 use evc::Part;
 use evc::SubBlock;
+use evc::job_of;
 
 // One less, and 0 for 0.
 fn less(log: usize) -> usize
@@ -17,27 +18,27 @@ fn less(log: usize) -> usize
 pub fn luma_job(call: SubBlock, part: Part) -> Job
     ensures { λ r. ⌜ r ≡ luma call part ⌝ }
 {
-    Job {
-        start: part.start,
-        log2_w: call.log2_w,
-        log2_h: call.log2_h,
-        qp: part.qp,
-        offset: call.offset,
-        dq_shift: call.dq_shift,
-        it_shift: call.it_shift,
-    }
+    job_of(
+        part.start,
+        call.log2_w,
+        call.log2_h,
+        part.qp,
+        call.offset,
+        call.dq_shift,
+        call.it_shift,
+    )
 }
 
 pub fn chroma_job(call: SubBlock, part: Part) -> Job
     ensures { λ r. ⌜ r ≡ chroma call part ⌝ }
 {
-    Job {
-        start: part.start,
-        log2_w: less(call.log2_w),
-        log2_h: less(call.log2_h),
-        qp: part.qp,
-        offset: call.offset,
-        dq_shift: call.dq_shift,
-        it_shift: call.it_shift,
-    }
+    job_of(
+        part.start,
+        less(call.log2_w),
+        less(call.log2_h),
+        part.qp,
+        call.offset,
+        call.dq_shift,
+        call.it_shift,
+    )
 }

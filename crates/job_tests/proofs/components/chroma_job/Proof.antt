@@ -1,5 +1,8 @@
 -- `job_tests::components::chroma_job` meets its contract. Assumes nothing.
 use borrow.Author.Needs.{needs}
+use mathlib.Core.Path.{_≡_}
+use mir.Syntax.{w32}
+use mir.Val.{toZ, ofZ}
 use Rattle.job_tests.proofs.components.chroma_job.Statement.{statement}
 use Rattle.job_tests.proofs.components.chroma_job.Tie as tie
 
@@ -9,8 +12,15 @@ less-requires c κs = search needs
 less-requires-2 : tie.Need-less-requires-2
 less-requires-2 c κs = search needs
 
+job-of-requires : tie.Need-job-of-requires
+job-of-requires c κs = search needs
+
 returns : tie.Need-returns
-returns c = rw (c .before .before .less .ensures, c .before .less2 .ensures) (search needs)
+returns c =
+    let k = c .before .before in
+    let call = k .before .before .args .call in
+    let off : toZ w32 (ofZ w32 (call .offset)) ≡ call .offset = search needs in
+    rw (off, k .before .less .ensures, k .less2 .ensures) at (c .job-of .ensures)
 
 pub chroma-job-spec : {M : Type 1} → statement M
-chroma-job-spec = tie.close (tie.spec less-requires less-requires-2 returns)
+chroma-job-spec = tie.close (tie.spec less-requires less-requires-2 job-of-requires returns)
