@@ -1,5 +1,5 @@
--- What the export of the sub-block call promises. What a caller hands in is records' (specs/Given.antt), what it is told numbers'
--- (specs/Told.antt). Assumes nothing.
+-- What the export of the sub-block call promises. What a caller hands in, and what it gets back, are definitions of the crate boundary. Assumes
+-- nothing.
 use Prim.Native.Nat.{ℕ}
 use mathlib.Core.Path.{_≡_}
 use mathlib.Core.List.{List}

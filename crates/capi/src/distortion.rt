@@ -101,7 +101,9 @@ pub extern "C" fn tv_ssd_16i(
     depth: u8,
     value: &mut i64,
 ) -> u8
-    ensures { λ r. ⌜ Told (ssd16i (planeOf (now (one .entry)) width1 height1 stride1) (planeOf (now (two .entry)) width2 height2 stride2) x y «log2_w» «log2_h» depth) (now (value .entry)) (now (value .exit)) r ⌝ }
+    ensures { λ r. ⌜ Told
+        (ssd16i (planeOf (now (one .entry)) width1 height1 stride1) (planeOf (now (two .entry)) width2 height2 stride2) x y «log2_w» «log2_h» depth)
+        (now (value .entry)) (now (value .exit)) r ⌝ }
 {
     tell_squared(
         ssd::evce_ssd_16i(
@@ -142,7 +144,9 @@ pub extern "C" fn tv_sad_16b(
     depth: u8,
     value: &mut u32,
 ) -> u8
-    ensures { λ r. ⌜ Told (sad16b (planeOf (now (org .entry)) width height stride) x y (planeOf (now (reference .entry)) «ref_width» «ref_height» «ref_stride») «mv_x» «mv_y» w h depth) (now (value .entry)) (now (value .exit)) r ⌝ }
+    ensures { λ r. ⌜ Told
+        (sad16b (planeOf (now (org .entry)) width height stride) x y (planeOf (now (reference .entry)) «ref_width» «ref_height» «ref_stride») «mv_x» «mv_y» w h depth)
+        (now (value .entry)) (now (value .exit)) r ⌝ }
 {
     tell_distortion(
         sad::evce_sad_16b(

@@ -23,7 +23,9 @@ pub extern "C" fn tv_sub_block(
     qp_v: u8,
     component: &mut u8,
 ) -> u8
-    ensures { λ r. ⌜ SubDone (subBlockOf «log2_w» «log2_h» offset «dq_shift» «it_shift» (partOf «flag_y» «start_y» «qp_y») (partOf «flag_u» «start_u» «qp_u») (partOf «flag_v» «start_v» «qp_v»)) (now (coef .entry)) (now (coef .exit)) (now (component .entry)) (now (component .exit)) r ⌝ }
+    ensures { λ r. ⌜ SubDone
+        (subBlockOf «log2_w» «log2_h» offset «dq_shift» «it_shift» (partOf «flag_y» «start_y» «qp_y») (partOf «flag_u» «start_u» «qp_u») (partOf «flag_v» «start_v» «qp_v»))
+        (now (coef .entry)) (now (coef .exit)) (now (component .entry)) (now (component .exit)) r ⌝ }
 {
     let call = boundary::sub_block(
         log2_w,
