@@ -1,30 +1,25 @@
--- What a `match` on an answer tells of its reading: of a call's, and of a sub-block's. Assumes nothing.
+-- What a `match` on the verdict of a call's tests tells of its reading: of a call's, and of a sub-block's. Assumes nothing.
 use Prim.Native.Nat.{ℕ}
 use native.Mathlib.Omega.{arith}
 use mathlib.Core.Path.{_≡_, refl}
 use denote.Enum.Declared.{tagOf}
-use Rattle.evc.specs.declared.Answer.{Answer}
-use Rattle.evc.specs.declared.Answer.the-variants as answer
-use Rattle.evc.specs.declared.Component.{Component}
-use Rattle.evc.specs.declared.SubAnswer.{SubAnswer}
-use Rattle.evc.specs.declared.SubAnswer.the-variants as sub
-use Rattle.evc.specs.Answers.{number, answerNumber, accepted, refusedAt, subReading}
-use Rattle.evc.proofs.Answer as Answer
-use Rattle.evc.proofs.SubAnswer as SubAnswer
+use Rattle.evc.specs.declared.Verdict.{Verdict}
+use Rattle.evc.specs.declared.Verdict.the-variants as verdict
+use Rattle.evc.specs.declared.SubVerdict.{SubVerdict}
+use Rattle.evc.specs.declared.SubVerdict.the-variants as subVerdict
+use Rattle.evc.specs.Answers.{verdictNumber, accepted, subVerdictReading}
+use Rattle.evc.proofs.Verdict as Verdict
+use Rattle.evc.proofs.SubVerdict as SubVerdict
 use Rattle.evc.proofs.Tests.{number-some}
 
-pub is-done : (a : Answer) → tagOf Answer.the-type a ≡ 0 → answerNumber a ≡ 0
-is-done answer.Done e = refl
-is-done (answer.Refused r) e = absurd (omega arith)
+pub is-passed : (v : Verdict) → tagOf Verdict.the-type v ≡ 0 → verdictNumber v ≡ 0
+is-passed verdict.Passed e = refl
+is-passed (verdict.Broken r) e = absurd (omega arith)
 
-pub not-done : (a : Answer) → tagOf Answer.the-type a ≡ 1 → answerNumber a ≡ 0 → ⊥
-not-done answer.Done e z = omega arith
-not-done (answer.Refused r) e z = omega (arith, number-some r)
+pub is-broken : (v : Verdict) → tagOf Verdict.the-type v ≡ 1 → verdictNumber v ≡ 0 → ⊥
+is-broken verdict.Passed e z = omega arith
+is-broken (verdict.Broken r) e z = omega (arith, number-some r)
 
-pub sub-done : (a : SubAnswer) → tagOf SubAnswer.the-type a ≡ 0 → subReading a ≡ accepted
-sub-done sub.Done e = refl
-sub-done (sub.Refused c r) e = absurd (omega arith)
-
-pub sub-not-done : (a : SubAnswer) → tagOf SubAnswer.the-type a ≡ 1 → (c : Component) × (n : ℕ) × (subReading a ≡ refusedAt c n)
-sub-not-done sub.Done e = absurd (omega arith)
-sub-not-done (sub.Refused c r) e = (c, number r, refl)
+pub sub-passed : (v : SubVerdict) → tagOf SubVerdict.the-type v ≡ 0 → subVerdictReading v ≡ accepted
+sub-passed subVerdict.Passed e = refl
+sub-passed (subVerdict.Broken c r) e = absurd (omega arith)

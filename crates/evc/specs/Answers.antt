@@ -5,6 +5,10 @@ use lib.IntN.{ℤ}
 use Rattle.evc.specs.declared.Component.{Component}
 use Rattle.evc.specs.declared.Refusal.{Refusal}
 use Rattle.evc.specs.declared.Refusal.the-variants.{Size, Qp, Shift, Depth, Area, Overlap, Sample}
+use Rattle.evc.specs.declared.Verdict.{Verdict}
+use Rattle.evc.specs.declared.Verdict.the-variants as verdict
+use Rattle.evc.specs.declared.SubVerdict.{SubVerdict}
+use Rattle.evc.specs.declared.SubVerdict.the-variants as subVerdict
 use Rattle.evc.specs.declared.Answer.{Answer}
 use Rattle.evc.specs.declared.Answer.the-variants as answer
 use Rattle.evc.specs.declared.SubAnswer.{SubAnswer}
@@ -24,6 +28,11 @@ number Depth = 4
 number Area = 5
 number Overlap = 6
 number Sample = 7
+
+-- the tests of a call say a number: 0 where none is broken
+abbrev pub verdictNumber : Verdict → ℕ
+verdictNumber verdict.Passed = 0
+verdictNumber (verdict.Broken r) = number r
 
 -- a call that leaves its result in a buffer answers a number: 0 where it is accepted
 abbrev pub answerNumber : Answer → ℕ
@@ -65,3 +74,8 @@ pub data SubReply : Type 0 where
 abbrev pub subReading : SubAnswer → SubReply
 subReading sub.Done = accepted
 subReading (sub.Refused c r) = refusedAt c (number r)
+
+-- and its tests say which it will be
+abbrev pub subVerdictReading : SubVerdict → SubReply
+subVerdictReading subVerdict.Passed = accepted
+subVerdictReading (subVerdict.Broken c r) = refusedAt c (number r)

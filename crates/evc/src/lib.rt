@@ -73,6 +73,18 @@ pub enum Refusal {
     Sample,
 }
 
+// What the tests of a call say, before anything is done: none is broken, or which refusal the first broken one gives.
+pub enum Verdict {
+    Passed,
+    Broken(Refusal),
+}
+
+// The same of a sub-block call: a broken test names its component.
+pub enum SubVerdict {
+    Passed,
+    Broken(Component, Refusal),
+}
+
 // The answer of a call that leaves its result in a buffer.
 pub enum Answer {
     Done,

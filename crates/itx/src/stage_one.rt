@@ -8,7 +8,9 @@ ghost use Rattle.evc.specs.Answers.{answerNumber};
 ghost use Rattle.evc.specs.Stages.{stageOneNumber, itxb0Exit};
 ghost use Rattle.itx_halving.specs.Taken.{takesOne};
 use evc::Answer;
+use itx_halving::by_tests;
 use itx_halving::by_value;
+use itx_halving::stage_one;
 
 // What `itxb0_small` does not do. It is called in two places: compilers inline what has one caller, and a small call would pay for the buffers of the
 // large ones.
@@ -23,7 +25,7 @@ fn large(src: &[i16], dst: &mut [i32], log2_size: usize, log2_line: usize) -> An
     if itx_lines::itxb0(src, dst, log2_size, log2_line) {
         return Answer::Done;
     }
-    itx_halving::stage_one(src.len(), dst.len(), log2_size, log2_line)
+    by_tests(stage_one(src.len(), dst.len(), log2_size, log2_line))
 }
 
 // Stage one of size 2^log2_size on 2^log2_line lines.

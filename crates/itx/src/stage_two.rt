@@ -8,7 +8,9 @@ ghost use Rattle.evc.specs.Answers.{answerNumber};
 ghost use Rattle.evc.specs.Stages.{stageTwoNumber, itxb1Exit};
 ghost use Rattle.itx_halving.specs.Taken.{takesTwo};
 use evc::Answer;
+use itx_halving::by_tests;
 use itx_halving::by_value;
+use itx_halving::stage_two;
 
 // What `itxb1_small` does not do, called in two places as in stage one.
 fn large(src: &[i32], dst: &mut [i16], log2_size: usize, log2_line: usize, shift: u8) -> Answer
@@ -22,7 +24,7 @@ fn large(src: &[i32], dst: &mut [i16], log2_size: usize, log2_line: usize, shift
     if itx_lines::itxb1(src, dst, log2_size, log2_line, shift) {
         return Answer::Done;
     }
-    itx_halving::stage_two(src.len(), dst.len(), log2_size, log2_line, shift)
+    by_tests(stage_two(src.len(), dst.len(), log2_size, log2_line, shift))
 }
 
 // Stage two of size 2^log2_size on 2^log2_line lines.

@@ -1,8 +1,8 @@
 -- Laws of the calls that a crate takes: what the guard's code shows test by test; what the code of such a call knows, and shows at its end; what a
 -- caller knows where no crate did the call. Assumes nothing.
-use mathlib.Core.Path.{_≡_, refl, sym, ap, _∙_}
-use mathlib.Core.Bool.{Bool, true, false, cond, not, _&&_, _||_, false≢true}
-use mathlib.Core.List.{List, [], _∷_}
+use mathlib.Core.Path.{_≡_, refl, sym}
+use mathlib.Core.Bool.{Bool, true, false, not, _&&_, _||_, false≢true}
+use mathlib.Core.List.{List}
 use Prim.Native.Nat.{ℕ, _*_, _^_, _%_, _≤_, _<_}
 use native.Mathlib.Omega.{arith}
 use borrow.Author.Tests.{ltb-true, ltb-false, leb-true, eqb-true, le-leb, lt-leb, eq-eqb}
@@ -14,36 +14,19 @@ use Rattle.integers.specs.Lists.{written}
 use Rattle.integers.proofs.Bits.{one-shl}
 use Rattle.integers.proofs.Bools.{and-both, not-both}
 use Rattle.evc.specs.Table.{tm}
-use Rattle.evc.specs.declared.Refusal.the-variants.{Size, Shift, Area}
-use Rattle.evc.specs.Tests.{Test, _when_, first}
 use Rattle.evc.specs.Stages.{stageOneAt, stageTwoAt, stageOneNumber, stageTwoNumber, stageTwoTests, stageOneExit, stageTwoExit}
 use Rattle.evc.proofs.Tests.{unbroken, outside-no}
 use Rattle.itx_halving.specs.Lines.{StageRoom}
 use Rattle.itx_halving.specs.Taken.{takes, Call, takesOne, takesTwo, doneOne, doneTwo}
 use Rattle.itx_halving.proofs.Lines.{rooms, stage-end}
 
--- ---- the guard: tests that follow each other and answer alike are made as one
+-- ---- the guard: the limits are tested as one
 leb-not : (x y : ℕ) → leb x y ≡ not (ltb y x)
 leb-not x y = go (ltb y x) refl
   where
     go : (t : Bool) → ltb y x ≡ t → leb x y ≡ not t
     go true e = lt-leb x y (ltb-true y x e)
     go false e = le-leb x y (ltb-false y x e)
-
-pub size-or-shift : (s t u : Bool) (ts : List Test) → s || t || u ≡ true → false ≡ eqb (first ((Size when s) ∷ (Size when t) ∷ (Shift when u) ∷ ts)) 0
-size-or-shift true t u ts e = refl
-size-or-shift false true u ts e = refl
-size-or-shift false false true ts e = refl
-size-or-shift false false false ts e = absurd (false≢true e)
-
--- k is the number of samples as the code has it
-pub both-areas : (n m k : ℕ) → leb k n && leb k m ≡ eqb (first ((Area when ltb n k) ∷ (Area when ltb m k) ∷ [])) 0
-both-areas n m k = rw (leb-not k n, leb-not k m) (go (ltb n k) (ltb m k))
-  where
-    go : (s t : Bool) → not s && not t ≡ eqb (first ((Area when s) ∷ (Area when t) ∷ [])) 0
-    go true t = refl
-    go false true = refl
-    go false false = refl
 
 module _ (lo hi least a b z : ℕ) where
   pub elsewhere : ltb a lo || ltb hi a || ltb b least ≡ true → false ≡ takes lo hi least a b z

@@ -1,20 +1,10 @@
 // Which calls of a stage a crate takes: sizes from 2^lo to 2^hi of 2^least lines or more, that break no test. Document 01, "Refusal numbers, in
 // the order they are tested".
 ghost use mathlib.Core.Path.{_≡_};
-ghost use lib.Dec.{eqb};
 ghost use Rattle.evc.specs.Stages.{stageTwoNumber};
 ghost use Rattle.itx_halving.specs.Taken.{takes};
-
-// No test of a stage is broken; n and m are the lengths of input and output.
-fn accepted(n: usize, m: usize, log2_size: usize, log2_line: usize, shift: u8) -> bool
-    ensures { λ r. ⌜ r ≡ eqb (stageTwoNumber n m «log2_size» «log2_line» shift) 0 ⌝ }
-{
-    if (log2_size < 1) | (6 < log2_size) | (6 < log2_line) | (31 < shift) {
-        return false;
-    }
-    let k = 1usize << (log2_size + log2_line);
-    (k <= n) & (k <= m)
-}
+use crate::tests::stage_two;
+use evc::Verdict;
 
 // The limits are literals where this is called, so that a compiler makes each crate its own test. Stage one's shift is 0.
 pub fn takes(
@@ -32,5 +22,9 @@ pub fn takes(
     if (log2_size < lo) | (hi < log2_size) | (log2_line < least) {
         return false;
     }
-    accepted(n, m, log2_size, log2_line, shift)
+    if let Verdict::Passed = stage_two(n, m, log2_size, log2_line, shift) {
+        true
+    } else {
+        false
+    }
 }

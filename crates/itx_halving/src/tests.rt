@@ -1,30 +1,30 @@
 // The tests of the two stages, of size 2^log2_size on 2^log2_line lines, with an input of `src` and an output of `dst` places.
 // Differs from the Rust in: it has no such tests; a bad call traps there.
 ghost use mathlib.Core.Path.{_≡_};
-ghost use Rattle.evc.specs.Answers.{answerNumber};
+ghost use Rattle.evc.specs.Answers.{verdictNumber};
 ghost use Rattle.evc.specs.Stages.{stageOneNumber, stageTwoNumber};
-use evc::Answer;
 use evc::Refusal;
+use evc::Verdict;
 
-pub fn stage_two(src: usize, dst: usize, log2_size: usize, log2_line: usize, shift: u8) -> Answer
-    ensures { λ r. ⌜ answerNumber r ≡ stageTwoNumber src dst «log2_size» «log2_line» shift ⌝ }
+pub fn stage_two(src: usize, dst: usize, log2_size: usize, log2_line: usize, shift: u8) -> Verdict
+    ensures { λ r. ⌜ verdictNumber r ≡ stageTwoNumber src dst «log2_size» «log2_line» shift ⌝ }
 {
     if (log2_size < 1) | (6 < log2_size) | (6 < log2_line) {
-        return Answer::Refused(Refusal::Size);
+        return Verdict::Broken(Refusal::Size);
     }
     if 31 < shift {
-        return Answer::Refused(Refusal::Shift);
+        return Verdict::Broken(Refusal::Shift);
     }
     let n = 1usize << (log2_size + log2_line);
     if (src < n) | (dst < n) {
-        return Answer::Refused(Refusal::Area);
+        return Verdict::Broken(Refusal::Area);
     }
-    Answer::Done
+    Verdict::Passed
 }
 
 // Stage one has stage two's tests but for the shift, so that its own are those with a shift that breaks none.
-pub fn stage_one(src: usize, dst: usize, log2_size: usize, log2_line: usize) -> Answer
-    ensures { λ r. ⌜ answerNumber r ≡ stageOneNumber src dst «log2_size» «log2_line» ⌝ }
+pub fn stage_one(src: usize, dst: usize, log2_size: usize, log2_line: usize) -> Verdict
+    ensures { λ r. ⌜ verdictNumber r ≡ stageOneNumber src dst «log2_size» «log2_line» ⌝ }
 {
     stage_two(src, dst, log2_size, log2_line, 0)
 }

@@ -7,14 +7,14 @@ ghost use Rattle.evc.specs.Answers.{answerNumber};
 ghost use Rattle.evc.specs.Jobs.{jobNumber, jobExit};
 use evc::Answer;
 use evc::Job;
+use evc::Verdict;
 
 pub fn evc_itdq_job(coef: &mut [i16], job: Job) -> Answer
     ensures answer { λ r. ⌜ answerNumber r ≡ jobNumber (length (now (coef .entry))) job ⌝ }
     ensures exit { λ r. ⌜ now (coef .exit) ≡ jobExit job (now (coef .entry)) ⌝ }
 {
-    let answer = job_tests::of_job(coef.len(), job);
-    if let Answer::Refused(_) = answer {
-        return answer;
+    if let Verdict::Broken(r) = job_tests::of_job(coef.len(), job) {
+        return Answer::Refused(r);
     }
     let by = scaling::scale_of(job.qp);
     let start = job.start;

@@ -5,7 +5,7 @@ use native.Mathlib.Omega.{arith}
 use lib.Pow.{pow-pos}
 use mathlib.Core.Path.{_≡_, refl, sym, ap, _∙_}
 use mathlib.Core.Logic.{_⊎_, inl, inr, ⊎-elim}
-use mathlib.Core.Bool.{Bool, true, false, _&&_, true≢false, false≢true}
+use mathlib.Core.Bool.{Bool, true, false, cond, _&&_, true≢false, false≢true}
 use mathlib.Core.List.{List, [], _∷_}
 use lib.Dec.{ltb}
 use borrow.Author.Tests.{ltb-true, ltb-false}
@@ -50,20 +50,20 @@ pub jobs-meet : (j k : Job) (m n : ℕ) (r : Bool) → m ≡ samplesOf (j .«log
     → (1 ≤ m → 1 ≤ n → r ≡ isSome (shared (row (j .start) m) (row (k .start) n))) → r ≡ isSome (shared (area j) (area k))
 jobs-meet j k m n r em en h = h (rw em (pow-pos _)) (rw en (pow-pos _)) ∙ rw (area-run j, area-run k, em, en)
 
--- ---- a pair of which r says whether both jobs share a sample, where both are wanted
-module _ (c : Component) (one other r : Bool) (j k : Job) (rest : SubReply) (h : one ≡ true → other ≡ true → r ≡ isSome (shared (area j) (area k))) where
-  pub pair-here : one && other && r ≡ true → refusedAt c 6 ≡ orElse (one && other) c (first (overlap j k ∷ [])) rest
-  pair-here = go one other h
+-- ---- a pair, on where both are flagged; r says whether they share a sample, as the code has it
+module _ (c : Component) (on : Bool) (j k : Job) (rest : SubReply) {r : Bool} (h : r ≡ on && isSome (shared (area j) (area k))) where
+  pub pair-here : r ≡ true → refusedAt c 6 ≡ orElse on c (first (overlap j k ∷ [])) rest
+  pair-here e = go on (isSome (shared (area j) (area k))) (sym h ∙ e)
     where
-      go : (s t : Bool) → (s ≡ true → t ≡ true → r ≡ isSome (shared (area j) (area k))) → s && t && r ≡ true → refusedAt c 6 ≡ orElse (s && t) c (first (overlap j k ∷ [])) rest
-      go true true f e = let p = sym (f refl refl) ∙ e in rw p
-      go true false f e = absurd (false≢true e)
-      go false t f e = absurd (false≢true e)
+      go : (t s : Bool) → t && s ≡ true → refusedAt c 6 ≡ orElse t c (cond s 6 0) rest
+      go true true f = refl
+      go true false f = absurd (false≢true f)
+      go false s f = absurd (false≢true f)
 
-  pub pair-rest : one && other && r ≡ false → rest ≡ orElse (one && other) c (first (overlap j k ∷ [])) rest
-  pair-rest = go one other h
+  pub pair-rest : r ≡ false → rest ≡ orElse on c (first (overlap j k ∷ [])) rest
+  pair-rest e = go on (isSome (shared (area j) (area k))) (sym h ∙ e)
     where
-      go : (s t : Bool) → (s ≡ true → t ≡ true → r ≡ isSome (shared (area j) (area k))) → s && t && r ≡ false → rest ≡ orElse (s && t) c (first (overlap j k ∷ [])) rest
-      go true true f e = let p = sym (f refl refl) ∙ e in rw p
-      go true false f e = refl
-      go false t f e = refl
+      go : (t s : Bool) → t && s ≡ false → rest ≡ orElse t c (cond s 6 0) rest
+      go true true f = absurd (true≢false f)
+      go true false f = refl
+      go false s f = refl

@@ -1,2 +1,2 @@
 -- What the inner functions' contracts need beyond document 01's definitions, which stand in the crate evc.
-pub mod Ranges
+pub mod Pairs

@@ -3,11 +3,11 @@
 ghost use mathlib.Core.Path.{_≡_};
 ghost use Prim.Native.Nat.{_≤_};
 ghost use lib.Dec.{ltb};
-ghost use Rattle.evc.specs.Answers.{answerNumber};
+ghost use Rattle.evc.specs.Answers.{verdictNumber};
 ghost use Rattle.evc.specs.Jobs.{areaEnd, jobNumber};
-use evc::Answer;
 use evc::Job;
 use evc::Refusal;
+use evc::Verdict;
 
 // The area ends past a buffer of `len` samples. No sum is formed that may wrap, so that a start near the largest usize is no exception.
 fn past_end(len: usize, job: Job) -> bool
@@ -20,20 +20,20 @@ fn past_end(len: usize, job: Job) -> bool
 }
 
 // The tests of a job on a buffer of `len` samples.
-pub fn of_job(len: usize, job: Job) -> Answer
-    ensures { λ r. ⌜ answerNumber r ≡ jobNumber len job ⌝ }
+pub fn of_job(len: usize, job: Job) -> Verdict
+    ensures { λ r. ⌜ verdictNumber r ≡ jobNumber len job ⌝ }
 {
     if ((job.log2_w < 1) | (6 < job.log2_w)) | ((job.log2_h < 1) | (6 < job.log2_h)) {
-        return Answer::Refused(Refusal::Size);
+        return Verdict::Broken(Refusal::Size);
     }
     if 63 < job.qp {
-        return Answer::Refused(Refusal::Qp);
+        return Verdict::Broken(Refusal::Qp);
     }
     if (31 < job.dq_shift) | (31 < job.it_shift) {
-        return Answer::Refused(Refusal::Shift);
+        return Verdict::Broken(Refusal::Shift);
     }
     if past_end(len, job) {
-        return Answer::Refused(Refusal::Area);
+        return Verdict::Broken(Refusal::Area);
     }
-    Answer::Done
+    Verdict::Passed
 }

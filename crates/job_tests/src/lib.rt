@@ -1,5 +1,5 @@
-// What is told of a job and of a sub-block before anything is done: the job of each component, and whether the call is refused, in which
-// component and by which test. A function here looks at no buffer, only at its length. Document 01, "Numbers of the domain" and "Refusal
+// What is known of a job and of a sub-block before anything is done: the job of each component, and whether a test is broken, which, and in which
+// component. A function here looks at no buffer, only at its length. Document 01, "Numbers of the domain" and "Refusal
 // numbers, in the order they are tested".
 mod components;
 mod job;

@@ -12,6 +12,7 @@ ghost use Rattle.evc.specs.SubBlocks.{given, subReply, subExit};
 use evc::Job;
 use evc::SubAnswer;
 use evc::SubBlock;
+use evc::SubVerdict;
 use job_tests::chroma_job;
 use job_tests::luma_job;
 
@@ -34,11 +35,11 @@ pub fn evc_sub_block_itdq2(coef: &mut [i16], call: SubBlock) -> SubAnswer
     ensures answer { λ r. ⌜ subReading r ≡ subReply (length (now (coef .entry))) call ⌝ }
     ensures exit { λ r. ⌜ now (coef .exit) ≡ subExit call (now (coef .entry)) ⌝ }
 {
-    let answer = job_tests::of_sub_block(coef.len(), call);
-    if let SubAnswer::Done = answer {
-        component(&mut coef[..], call.y.flag, luma_job(call, call.y));
-        component(&mut coef[..], call.u.flag, chroma_job(call, call.u));
-        component(&mut coef[..], call.v.flag, chroma_job(call, call.v));
+    if let SubVerdict::Broken(c, r) = job_tests::of_sub_block(coef.len(), call) {
+        return SubAnswer::Refused(c, r);
     }
-    answer
+    component(&mut coef[..], call.y.flag, luma_job(call, call.y));
+    component(&mut coef[..], call.u.flag, chroma_job(call, call.u));
+    component(&mut coef[..], call.v.flag, chroma_job(call, call.v));
+    SubAnswer::Done
 }

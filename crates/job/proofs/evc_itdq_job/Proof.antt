@@ -1,16 +1,17 @@
 -- `job::evc_itdq_job` meets its contract: an accepted job's area is inside the buffer, and lent whole, to the dequantizer and to both
 -- stages. Assumes nothing.
-use mathlib.Core.Path.{_≡_, sym, _∙_}
+use mathlib.Core.Path.{_≡_, sym, ap, _∙_}
 use native.Mathlib.Omega.{arith}
 use Prim.Native.Nat.{_+_, _≤_}
 use lib.ListN.{length}
 use mir.Syntax.{w32}
 use mir.Val.{toZ, ofZ}
+use Rattle.evc.specs.Answers.{verdictNumber}
 use Rattle.evc.specs.Dequantizer.{scale}
 use Rattle.evc.specs.Jobs.{jobNumber}
 use Rattle.evc.proofs.Jobs.{accepted}
 use Rattle.evc.proofs.AnyOrder.{refused-unchanged}
-use Rattle.evc.proofs.Matches.{is-done, not-done}
+use Rattle.evc.proofs.Matches.{is-passed, is-broken}
 use Rattle.scaling.proofs.Scales.{scale-known}
 use Rattle.job.proofs.Areas.{logs-sum, size, area-inside, lent-done}
 use borrow.Author.Needs.{needs}
@@ -20,19 +21,20 @@ use Rattle.job.proofs.evc_itdq_job.Tie as tie
 of-job-requires : tie.Need-of-job-requires
 of-job-requires c κs = search needs
 
-enum-told : tie.Need-enum-told
-enum-told c = search needs
+enum-known-r : tie.Need-enum-known-r
+enum-known-r c = search needs
 
 returns : tie.Need-returns
 returns c =
-    let start = c .before .before .before in
-    let t = c .before .before .of-job in (
-      t .ensures,
-      sym (refused-unchanged (start .args .coef .now) (start .args .job) (λ z. not-done (t .result) (c .before .match .keys1) (t .ensures ∙ z))),
+    let m = c .before .before in
+    let t = m .before .of-job in
+    let start = m .before .before in (
+      sym (ap verdictNumber (c .before .r .given .1)) ∙ t .ensures,
+      sym (refused-unchanged (start .args .coef .now) (start .args .job) (λ z. is-broken (t .result) (m .match .keys1) (t .ensures ∙ z))),
     )
 
-enum-told-2 : tie.Need-enum-told-2
-enum-told-2 c = search needs
+enum-told : tie.Need-enum-told
+enum-told c = search needs
 
 -- ---- where the tests have passed
 module _ (c : tie.After-struct-known) where
@@ -40,7 +42,7 @@ module _ (c : tie.After-struct-known) where
   start = c .before .before .before .before .before
 
   passed : jobNumber (length (start .args .coef .now)) (start .args .job) ≡ 0
-  passed = let t = c .before .before .before .before .of-job in sym (t .ensures) ∙ is-done (t .result) (c .before .before .before .match .keys2)
+  passed = let t = c .before .before .before .before .of-job in sym (t .ensures) ∙ is-passed (t .result) (c .before .before .before .match .keys2)
 
   sum : start .args .job .«log2_w» + start .args .job .«log2_h» ≤ 12
   sum = logs-sum (start .args .coef .now) (start .args .job) passed
@@ -106,9 +108,9 @@ evc-itdq-job-spec =
     tie.close
     (tie.spec
     of-job-requires
-    enum-told
+    enum-known-r
     returns
-    enum-told-2
+    enum-told
     scale-of-requires
     add-end
     shl-end

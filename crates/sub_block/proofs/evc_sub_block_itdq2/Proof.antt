@@ -1,9 +1,11 @@
 -- `sub_block::evc_sub_block_itdq2` meets its contract. Assumes nothing.
-use mathlib.Core.Path.{sym, _∙_}
+use mathlib.Core.Path.{_≡_, sym, ap, _∙_}
 use lib.ListN.{length}
 use Rattle.evc.specs.declared.SubBlock.{SubBlock}
+use Rattle.evc.specs.Answers.{accepted, subVerdictReading}
+use Rattle.evc.specs.SubBlocks.{subReply}
 use Rattle.evc.proofs.SubBlocks.{AllPassed, all-passed, luma-accepted, sub-refused}
-use Rattle.evc.proofs.Matches.{sub-done, sub-not-done}
+use Rattle.evc.proofs.Matches.{sub-passed}
 use Rattle.sub_block.proofs.SubBlocks.{chroma-passed, sub-left}
 use borrow.Author.Needs.{needs}
 use Rattle.sub_block.proofs.evc_sub_block_itdq2.Statement.{statement}
@@ -12,15 +14,32 @@ use Rattle.sub_block.proofs.evc_sub_block_itdq2.Tie as tie
 of-sub-block-requires : tie.Need-of-sub-block-requires
 of-sub-block-requires c κs = search needs
 
+enum-known-c : tie.Need-enum-known-c
+enum-known-c c = search needs
+
+returns : tie.Need-returns
+returns c =
+    let t = c .before .before .before in
+    let start = t .before in
+    let e = sym (ap subVerdictReading (c .before .c .given .1)) ∙ t .of-sub-block .ensures in
+    (e, sym (sub-refused (start .args .call) (start .args .coef .now) _ _ (sym e)))
+
 enum-told : tie.Need-enum-told
 enum-told c = search needs
 
--- the call is accepted
-abbrev call : tie.After-enum-told → SubBlock
-call c = c .before .before .before .args .call
+-- ---- where the call is accepted
+module _ (c : tie.After-enum-told) where
+  abbrev start : tie.Start
+  start = c .before .before .before
 
-passed : (c : tie.After-enum-told) → AllPassed (length (c .before .before .before .args .coef .now)) (call c)
-passed c = let t = c .before .before .of-sub-block in all-passed _ _ (sym (t .ensures) ∙ sub-done (t .result) (c .before .match .keys1))
+  abbrev call : SubBlock
+  call = start .args .call
+
+  is-accepted : subReply (length (start .args .coef .now)) call ≡ accepted
+  is-accepted = let t = c .before .before .of-sub-block in sym (t .ensures) ∙ sub-passed (t .result) (c .before .match .keys2)
+
+  passed : AllPassed (length (start .args .coef .now)) call
+  passed = all-passed _ _ is-accepted
 
 luma-job-requires : tie.Need-luma-job-requires
 luma-job-requires c κs = search needs
@@ -30,12 +49,19 @@ component-requires c κs t =
     let k = c .before .before in
     rw (c .luma-job .ensures) (luma-accepted _ (call k) (call k .y) (passed k .y t))
 
+-- where Y's component, and then U's, has been done
+abbrev y-done : tie.After-chroma-job → tie.After-luma-job
+y-done c = c .before .before .before .before
+
+abbrev u-done : tie.After-chroma-job2 → tie.After-chroma-job
+u-done c = c .before .before .before .before
+
 chroma-job-requires : tie.Need-chroma-job-requires
 chroma-job-requires c κs = search needs
 
 component-requires-2 : tie.Need-component-requires-2
 component-requires-2 c κs t =
-    let k = c .before .before .before .before .before .before in
+    let k = y-done c .before .before in
     search (chroma-passed (call k) (call k .u) (passed k .u) (c .chroma-job .ensures) (c .before .before .coef .given))
 
 chroma-job-requires-2 : tie.Need-chroma-job-requires-2
@@ -43,37 +69,32 @@ chroma-job-requires-2 c κs = search needs
 
 component-requires-3 : tie.Need-component-requires-3
 component-requires-3 c κs t =
-    let k = c .before .before .before .before .before .before .before .before .before .before in
-    search (chroma-passed (call k) (call k .v) (passed k .v) (c .chroma-job2 .ensures) (c .before .before .coef2 .given ∙ c .before .before .before .before .before .before .coef .given))
-
-enum-told-2 : tie.Need-enum-told-2
-enum-told-2 c = search needs
+    let u = u-done c in
+    let k = y-done u .before .before in
+    search (chroma-passed (call k) (call k .v) (passed k .v) (c .chroma-job2 .ensures) (c .before .before .coef2 .given ∙ u .before .before .coef .given))
 
 same-length : tie.Need-same-length
 same-length c = search needs
 
-returns : tie.Need-returns
-returns c =
-    let start = c .before .before .before .before .before .before .before .before .before .before .before .before .before .before .before in
-    let t = c .before .before .before .before .before .before .before .before .before .before .before .before .before .before .of-sub-block in (
-      t .ensures,
-      sub-left (start .args .call) (start .args .coef .now) _ _ _ (sym (t .ensures) ∙ sub-done (t .result) (c .before .before .before .before .before .before .before .before .before .before .before .before .before .match .keys1))
-          (c .before .before .before .before .before .before .before .before .before .before .luma-job .ensures) (c .before .before .before .before .before .before .chroma-job .ensures) (c .before .before .chroma-job2 .ensures)
-          (c .before .before .before .before .before .before .before .before .before .component .ensures) (c .before .before .before .before .before .component2 .ensures) (c .before .component3 .ensures),
-    )
-
 returns-2 : tie.Need-returns-2
 returns-2 c =
-    let start = c .before .before .before in
-    let t = c .before .before .of-sub-block in
-    let n = sub-not-done (t .result) (c .before .match .keys2) in
-    (t .ensures, sym (sub-refused (start .args .call) (start .args .coef .now) (n .0) (n .1) (sym (t .ensures) ∙ n .2)))
+    let v = c .before .before in
+    let u = u-done v in
+    let y = y-done u in
+    let k = y .before .before in (
+      sym (is-accepted k),
+      sub-left (call k) (start k .args .coef .now) _ _ _ (is-accepted k)
+          (y .luma-job .ensures) (u .chroma-job .ensures) (v .chroma-job2 .ensures)
+          (u .before .before .before .component .ensures) (v .before .before .before .component2 .ensures) (c .before .component3 .ensures),
+    )
 
 pub evc-sub-block-itdq2-spec : {M : Type 1} → statement M
 evc-sub-block-itdq2-spec =
     tie.close
     (tie.spec
     of-sub-block-requires
+    enum-known-c
+    returns
     enum-told
     luma-job-requires
     component-requires
@@ -81,7 +102,5 @@ evc-sub-block-itdq2-spec =
     component-requires-2
     chroma-job-requires-2
     component-requires-3
-    enum-told-2
     same-length
-    returns
     returns-2)

@@ -22,7 +22,10 @@ exit s d = itxb1Exit (s .args .log2-size) (s .args .log2-line) (s .args .shift) 
 
 -- where `itxb1_small` left the call alone
 left : (c : tie.Else2) → c .before .before .itxb1 .last .1 .0 ≡ c .before .before .before .before .before .args .dst .now
-left c = let s = c .before .before .before .before .before in let k = c .before .before .itxb1 in unchanged 1 3 0 (s .args .log2-size) (s .args .log2-line) (number s) (exit s) (k .result) (s .args .dst .now) (k .ensures .0) (k .ensures .1) (c .if2 .left)
+left c =
+    let s = c .before .before .before .before .before in
+    let k = c .before .before .itxb1 in
+    unchanged 1 3 0 (s .args .log2-size) (s .args .log2-line) (number s) (exit s) (k .result) (s .args .dst .now) (k .ensures .0) (k .ensures .1) (c .if2 .left)
 
 large-requires : tie.Need-large-requires
 large-requires c κs = let s = c .before .before in not-small (s .args .log2-size) (s .args .log2-line) _ (c .before .if1 .taken)

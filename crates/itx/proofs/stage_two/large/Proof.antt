@@ -23,7 +23,10 @@ exit s d = itxb1Exit (s .args .log2-size) (s .args .log2-line) (s .args .shift) 
 
 -- where the first crate, and then the second, left the call alone
 first-left : (c : tie.Else1) → c .before .before .itxb1 .last .1 .0 ≡ c .before .before .before .before .args .dst .now
-first-left c = let s = c .before .before .before .before in let k = c .before .before .itxb1 in unchanged 5 6 4 (s .args .log2-size) (s .args .log2-line) (number s) (exit s) (k .result) (s .args .dst .now) (k .ensures .0) (k .ensures .1) (c .if1 .left)
+first-left c =
+    let s = c .before .before .before .before in
+    let k = c .before .before .itxb1 in
+    unchanged 5 6 4 (s .args .log2-size) (s .args .log2-line) (number s) (exit s) (k .result) (s .args .dst .now) (k .ensures .0) (k .ensures .1) (c .if1 .left)
 
 itxb1-requires : tie.Need-itxb1-requires
 itxb1-requires c κs = search needs
@@ -57,14 +60,22 @@ stage-two-requires c κs = search needs
 same-length-3 : tie.Need-same-length-3
 same-length-3 c = search needs
 
+by-tests-requires : tie.Need-by-tests-requires
+by-tests-requires c κs = search needs
+
 returns-3 : tie.Need-returns-3
 returns-3 c =
-    let e = c .before .before .before .before .before in
+    let t = c .before in
+    let e = t .before .before .before .before .before in
     let s = e .before .before .before .before in
-    let k = c .before .before .before .itxb12 in
-    let d = unchanged 4 6 0 (s .args .log2-size) (s .args .log2-line) (number s) (exit s) (k .result) _ (k .ensures .0) (k .ensures .1) (c .before .if2 .left) ∙ first-left e in
-    let n = subst (λ (d : List ℤ). takesTwo 4 6 0 (s .args .log2-size) (s .args .log2-line) (s .args .shift) (s .args .src .now) d ≡ false) (first-left e) (not-taken-is 4 6 0 (s .args .log2-size) (s .args .log2-line) (number s) (exit s) (k .result) _ (k .ensures .0) (k .ensures .1) (c .before .if2 .left)) in
-    (subst (λ (d : List ℤ). answerNumber (c .stage-two .result) ≡ number s d) d (c .stage-two .ensures), d ∙ two-nobody (s .args .log2-size) (s .args .log2-line) (s .args .src .now) (s .args .dst .now) (s .args .shift) (s .pre) n)
+    let k = t .before .before .before .itxb12 in
+    let d = unchanged 4 6 0 (s .args .log2-size) (s .args .log2-line) (number s) (exit s) (k .result) _ (k .ensures .0) (k .ensures .1) (t .before .if2 .left) ∙ first-left e in
+    let n =
+    subst (λ (d : List ℤ). takesTwo 4 6 0 (s .args .log2-size) (s .args .log2-line) (s .args .shift) (s .args .src .now) d ≡ false) (first-left e)
+    (not-taken-is 4 6 0 (s .args .log2-size) (s .args .log2-line) (number s) (exit s) (k .result) _ (k .ensures .0) (k .ensures .1) (t .before .if2 .left)) in (
+      subst (λ (d : List ℤ). answerNumber (c .by-tests .result) ≡ number s d) d (c .by-tests .ensures ∙ t .stage-two .ensures),
+      d ∙ two-nobody (s .args .log2-size) (s .args .log2-line) (s .args .src .now) (s .args .dst .now) (s .args .shift) (s .pre) n,
+    )
 
 pub large-spec : {M : Type 1} → statement M
 large-spec =
@@ -77,5 +88,6 @@ large-spec =
     same-length-2
     returns-2
     stage-two-requires
+    by-tests-requires
     same-length-3
     returns-3)

@@ -1,7 +1,6 @@
--- `job_tests::pairs::samples` meets its contract: a log of at most 6 is its own remainder. Assumes nothing.
+-- `job_tests::pairs::samples` meets its contract. Assumes nothing.
 use native.Mathlib.Omega.{arith}
-use Prim.Native.Nat.{_+_, _%_}
-use mathlib.Core.Path.{_≡_, _∙_}
+use Prim.Native.Nat.{_+_}
 use mir.Syntax.{w64}
 use Rattle.integers.proofs.Bits.{one-shl}
 use borrow.Author.Needs.{needs}
@@ -15,11 +14,9 @@ shl-result : tie.Need-shl-result
 shl-result c = search needs
 
 returns : tie.Need-returns
-returns c s =
-    let j = c .before .before .args .job in
-    let w : j .«log2_w» % 8 ≡ j .«log2_w» = omega (arith, s .w6) in
-    let h : j .«log2_h» % 8 ≡ j .«log2_h» = omega (arith, s .h6) in
-    one-shl w64 (j .«log2_w» % 8 + j .«log2_h» % 8) (omega arith) ∙ rw (w, h)
+returns c =
+    let s = c .before in
+    one-shl w64 (s .args .job .«log2_w» + s .args .job .«log2_h») (omega (arith, s .pre .w6, s .pre .h6))
 
 pub samples-spec : {M : Type 1} → statement M
 samples-spec = tie.close (tie.spec add-result shl-result returns)
