@@ -7,4 +7,3 @@ pub mod Cells
 pub mod Line
 pub mod AtEdges
 pub mod Marked
-pub mod Sads

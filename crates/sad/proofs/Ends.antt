@@ -10,8 +10,8 @@ use Rattle.evc.specs.Tests.{_when_, first, reply}
 use Rattle.evc.specs.Differences.{difference, sadTotal}
 use Rattle.evc.specs.Calls.{depthTest}
 use Rattle.plane_tests.specs.Blocks.{rest}
-use Rattle.sample_tests.specs.Marks.{in32}
-use Rattle.sample_tests.proofs.Answered.{answered}
+use Rattle.sad_answer.specs.In32.{in32}
+use Rattle.sad_answer.proofs.Answered.{answered}
 use Rattle.plane_tests.proofs.Replies.{marked-rest}
 use Rattle.block_rows.specs.Totals.{BlocksTotalled, apart}
 use Rattle.block_rows.proofs.Samples.{apart-le}

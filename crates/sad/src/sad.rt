@@ -58,7 +58,7 @@ pub fn evce_sad_16b(
         w,
         h,
     );
-    sample_tests::sad_answer(t.sum, t.any, depth)
+    sad_answer::sad_answer(t.sum, t.any, depth)
 }
 
 pub fn evce_sad_16i(
@@ -88,5 +88,5 @@ pub fn evce_sad_16i(
         return Distortion::Refused(Refusal::Area);
     }
     let t = crate::blocks::sad_block(org, y * stride + x, stride, pred, 0, w, w, h);
-    sample_tests::sad_answer(t.sum, t.any, depth)
+    sad_answer::sad_answer(t.sum, t.any, depth)
 }

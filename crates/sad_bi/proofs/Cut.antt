@@ -15,7 +15,7 @@ use Rattle.integers.proofs.Bound.{Within}
 use Rattle.integers.proofs.Dif.{dif, up, dn, of, of-pos, dif-part, dif-eq, difs}
 use Rattle.integers.proofs.Order.{signed, sfits-parts}
 use Rattle.evc.specs.Planes.{tooLow}
-use Rattle.sample_tests.specs.Marks.{lowMark}
+use Rattle.sad_bi.specs.Marks.{lowMark}
 use Rattle.sad_bi.specs.Totals.{apartBi}
 use Rattle.sad_bi.specs.Near.{raise, nearBi}
 

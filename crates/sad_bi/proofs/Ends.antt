@@ -19,9 +19,10 @@ use Rattle.evc.specs.Planes.{Block, tooLow, biPacked}
 use Rattle.evc.specs.Differences.{difference, sadTotal}
 use Rattle.evc.specs.Calls.{depthTest}
 use Rattle.plane_tests.specs.Blocks.{rest, cell}
-use Rattle.sample_tests.specs.Marks.{in32, lowMark}
-use Rattle.sample_tests.proofs.Answered.{answered}
-use Rattle.sample_tests.proofs.LowMark.{low-marked}
+use Rattle.sad_answer.specs.In32.{in32}
+use Rattle.sad_bi.specs.Marks.{lowMark}
+use Rattle.sad_answer.proofs.Answered.{answered}
+use Rattle.sad_bi.proofs.LowMark.{low-marked}
 use Rattle.plane_tests.proofs.Replies.{Alike}
 use Rattle.block_rows.proofs.Marked.{samples, marked-value}
 use Rattle.sad_bi.specs.Totals.{BiBlocksTotalled, BiCounted, apartBi}

@@ -1,4 +1,5 @@
 -- Laws that several proofs of this crate need.
+pub mod LowMark
 pub mod Cut
 pub mod Pairs
 pub mod Ends

@@ -9,7 +9,7 @@ use lib.IntN.{ℤ, pos, negℤ, natAbs, _-ℤ_}
 use lib.ListN.{length, getD}
 use Rattle.evc.specs.Planes.{tooLow}
 use Rattle.plane_tests.specs.Blocks.{cell}
-use Rattle.sample_tests.specs.Marks.{lowMark}
+use Rattle.sad_bi.specs.Marks.{lowMark}
 use Rattle.block_rows.specs.Totals.{Totalled, Compared}
 
 -- of a bi-prediction value, of which none is below -16,384, and a sample cut to 14 bits

@@ -34,7 +34,7 @@ pub(crate) fn sad_row(a: &[i16], b: &[u16], w: usize) -> Totals
     for i in 0..w {
         let v = a[i];
         let q = b[i];
-        any = any | (sample_tests::low_mark(v) | q);
+        any = any | (crate::marks::low_mark(v) | q);
         sum = sum + distance(v, q);
     }
     let all = sum as u64;

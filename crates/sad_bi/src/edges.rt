@@ -7,7 +7,7 @@ ghost use lib.IntN.{pos, _+ℤ_};
 ghost use lib.ListN.{length, getD};
 ghost use Rattle.evc.specs.Planes.{edge};
 ghost use Rattle.plane_tests.specs.Blocks.{cell};
-ghost use Rattle.sample_tests.specs.Marks.{lowMark};
+ghost use Rattle.sad_bi.specs.Marks.{lowMark};
 ghost use Rattle.block_rows.specs.Totals.{Totalled};
 ghost use Rattle.block_rows.specs.Edges.{AtEdges, edgeCell};
 ghost use Rattle.sad_bi.specs.Totals.{BiBlocksTotalled, BiCounted, apartBi};

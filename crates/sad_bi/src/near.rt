@@ -5,7 +5,7 @@ ghost use mathlib.Core.Path.{_≡_};
 ghost use Prim.Native.Nat.{_*_, _≤_};
 ghost use lib.ListN.{length};
 ghost use lib.Bits.{bitOr};
-ghost use Rattle.sample_tests.specs.Marks.{lowMark};
+ghost use Rattle.sad_bi.specs.Marks.{lowMark};
 ghost use Rattle.sad_bi.specs.Near.{raise, nearBi, TwoRuns, RunsTotalled, InRuns, AllRunsTotalled};
 use block_rows::Totals;
 
@@ -56,7 +56,7 @@ fn pairs(a: &[i16], b: &[u16], n: usize) -> Totals
     }
     let last = std::num::wrapping_sub_u16(both, high << 8);
     let sum = (high as u64) * 256 + (last as u64);
-    let all = any | sample_tests::low_mark(low);
+    let all = any | crate::marks::low_mark(low);
     Totals { sum: sum, any: all }
 }
 

@@ -43,7 +43,7 @@ pub fn evce_sad_bi_16b(
         return Distortion::Refused(Refusal::Area);
     }
     let t = crate::edges::total(bi, reference, ref_stride, mv_x, mv_y, w, h);
-    sample_tests::sad_answer(t.sum, t.any, depth)
+    sad_answer::sad_answer(t.sum, t.any, depth)
 }
 
 pub fn evce_sad_bi_16i(bi: &[i16], pred: &[u16], w: usize, h: usize, depth: u8) -> Distortion
@@ -62,5 +62,5 @@ pub fn evce_sad_bi_16i(bi: &[i16], pred: &[u16], w: usize, h: usize, depth: u8) 
         return Distortion::Refused(Refusal::Area);
     }
     let t = crate::blocks::total(bi, pred, 0, w, w, h);
-    sample_tests::sad_answer(t.sum, t.any, depth)
+    sad_answer::sad_answer(t.sum, t.any, depth)
 }

@@ -1,7 +1,4 @@
-// What becomes of the samples' own test, SAMPLE: the marks that the loops of the distortion calls OR beside their sums, and the answer of a SAD by its
-// sum and its marks. Beside it, what SSD divides by.
-mod marks;
+// SAMPLE, as the distortion calls test it: once, by the OR of all that their loops read.
+mod tests;
 
-pub use marks::low_mark;
-pub use marks::sad_answer;
-pub use marks::square_shift;
+pub use tests::bad_samples;

@@ -3,10 +3,17 @@
 // Differs from the Rust in: samples are tested by the OR of all that are read, compared once by the caller, so that this loop has no way out and
 // becomes vector code. They are first cut to the depth's bits, which changes only what is refused.
 ghost use mathlib.Core.Path.{_≡_};
-ghost use Prim.Native.Nat.{_*_, _<_, _≤_};
+ghost use Prim.Native.Nat.{_*_, _%_, _<_, _≤_};
 ghost use Rattle.block_rows.specs.Totals.{RowsTotalled, TwoRows, apart};
 ghost use Rattle.ssd.specs.Squares.{squared, squaredLow};
 use block_rows::Totals;
+
+// By how many bits SSD divides a squared difference: 2 · (depth - 8) of a depth that is allowed, which the remainder doesn't change.
+fn square_shift(depth: u8) -> u8
+    ensures { λ r. ⌜ r ≡ 2 * (depth % 8) ⌝ }
+{
+    (depth % 8) * 2
+}
 
 // The square of a difference of samples that were cut to 14 bits.
 fn square(p: u16, q: u16) -> u32
@@ -37,7 +44,7 @@ pub(crate) fn ssd_row(a: &[u16], b: &[u16], w: usize, depth: u8) -> Totals
     ensures { λ r. ⌜ RowsTotalled (squaredLow depth) w (now (a .entry)) (now (b .entry)) (r .sum) (r .any) ⌝ }
 {
     let mask = (1u16 << depth) - 1;
-    let shift = sample_tests::square_shift(depth);
+    let shift = square_shift(depth);
     let mut sum: u32 = 0;
     let mut any: u16 = 0;
     for i in 0..w {

@@ -19,7 +19,7 @@ fn end(t: Totals, depth: u8) -> SquaredDistortion
     requires { ⌜ (depth ≤ 14) × (t .sum < 2 ^ 63) ⌝ }
     ensures { λ r. ⌜ squaredReading r ≡ reply (first ((number.Sample when leb (2 ^ depth) (t .any)) ∷ [])) (pos (t .sum)) ⌝ }
 {
-    if t.any >> depth != 0 {
+    if sample_tests::bad_samples(t.any, depth) {
         return SquaredDistortion::Refused(Refusal::Sample);
     }
     let ssd = t.sum as i64;

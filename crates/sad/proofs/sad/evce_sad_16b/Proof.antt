@@ -15,7 +15,7 @@ use Rattle.plane_tests.specs.Blocks.{cell}
 use Rattle.plane_tests.proofs.Planes.{is-inside, rows-inside, plane-alike}
 use Rattle.plane_tests.proofs.Replies.{rest-alike}
 use Rattle.block_rows.specs.Edges.{edgeCell, AtEdges}
-use Rattle.block_rows.proofs.Sads.{sad-alike, sad-size, sad-depth, sad-area, sad-second, sad-rest}
+use Rattle.sad_answer.proofs.Sads.{sad-alike, sad-size, sad-depth, sad-area, sad-second, sad-rest}
 use Rattle.block_rows.proofs.AtEdges.{edges-in, edges-alike, as-bits, of-bits}
 use Rattle.block_rows.specs.Totals.{BlocksTotalled, apart}
 use Rattle.sad.proofs.Ends.{sad-totalled}

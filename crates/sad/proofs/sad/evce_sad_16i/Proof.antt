@@ -12,7 +12,7 @@ use Rattle.plane_tests.specs.Areas.{outsidePlane}
 use Rattle.plane_tests.specs.Blocks.{TwoBlocks, cell}
 use Rattle.plane_tests.proofs.Planes.{is-inside, rows-inside, plane-alike}
 use Rattle.plane_tests.proofs.Replies.{rest-alike}
-use Rattle.block_rows.proofs.Sads.{sad-alike, sad-size, sad-depth, sad-area, sad-second, sad-rest}
+use Rattle.sad_answer.proofs.Sads.{sad-alike, sad-size, sad-depth, sad-area, sad-second, sad-rest}
 use Rattle.sad.proofs.Ends.{sad-totalled}
 use Rattle.sad.proofs.sad.evce_sad_16i.Statement.{statement}
 use Rattle.sad.proofs.sad.evce_sad_16i.Tie as tie

@@ -7,7 +7,7 @@ use lib.Bits.{bitOr}
 use lib.IntN.{ℤ, pos}
 use lib.ListN.{length}
 use Rattle.plane_tests.specs.Blocks.{TwoBlocks, cell}
-use Rattle.sample_tests.specs.Marks.{lowMark}
+use Rattle.sad_bi.specs.Marks.{lowMark}
 use Rattle.block_rows.specs.Totals.{Compared}
 use Rattle.sad_bi.specs.Totals.{apartBi}
 use Rattle.sad_bi.proofs.blocks.sad_block.Statement.{statement}

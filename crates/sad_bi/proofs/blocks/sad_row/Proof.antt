@@ -9,7 +9,7 @@ use lib.ListN.{getD}
 use mir.Syntax.{w16}
 use mir.Val.{toZ, ofZ}
 use mir.Facts.{toZ-ofZ}
-use Rattle.sample_tests.specs.Marks.{lowMark}
+use Rattle.sad_bi.specs.Marks.{lowMark}
 use Rattle.sad_bi.specs.Totals.{apartBi}
 use Rattle.block_rows.proofs.Running.{Running, running-start, running-step, running-end}
 use Rattle.sad_bi.proofs.blocks.sad_row.Statement.{statement}

@@ -8,7 +8,7 @@ use lib.ListN.{length}
 use Rattle.integers.specs.Sum.{sumN}
 use Rattle.integers.specs.Or.{orN}
 use Rattle.plane_tests.specs.Blocks.{cell}
-use Rattle.sample_tests.specs.Marks.{lowMark}
+use Rattle.sad_bi.specs.Marks.{lowMark}
 use Rattle.plane_tests.proofs.Planes.{in-one, in-two}
 use Rattle.block_rows.specs.Totals.{Totalled}
 use Rattle.sad_bi.specs.Totals.{apartBi}

@@ -15,7 +15,7 @@ use Rattle.integers.proofs.Sum.{sum-ext}
 use Rattle.order.specs.Positions.{reach}
 use Rattle.evc.proofs.Marks.{below-all}
 use Rattle.plane_tests.specs.Blocks.{TwoBlocks, cell}
-use Rattle.sample_tests.specs.Marks.{lowMark}
+use Rattle.sad_bi.specs.Marks.{lowMark}
 use Rattle.sad_bi.specs.Totals.{apartBi}
 use Rattle.sad_bi.specs.Near.{nearBi, InRuns, AllRunsTotalled}
 use Rattle.sad_bi.specs.Totals.{BiCounted}

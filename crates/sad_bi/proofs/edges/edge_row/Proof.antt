@@ -6,7 +6,7 @@ use lib.IntN.{ℤ, pos, _+ℤ_}
 use lib.ListN.{getD}
 use mir.Facts.{toZ-ofZ}
 use Rattle.evc.specs.Planes.{edge}
-use Rattle.sample_tests.specs.Marks.{lowMark}
+use Rattle.sad_bi.specs.Marks.{lowMark}
 use Rattle.block_rows.proofs.Cells.{totalled-ext}
 use Rattle.block_rows.proofs.Line.{line-room, line-long, line-length, line-at}
 use borrow.Author.Needs.{needs}

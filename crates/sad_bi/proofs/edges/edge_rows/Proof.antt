@@ -13,7 +13,7 @@ use Rattle.integers.specs.Sum.{sumN}
 use Rattle.integers.specs.Or.{orN}
 use Rattle.evc.specs.Planes.{edge}
 use Rattle.plane_tests.specs.Blocks.{cell}
-use Rattle.sample_tests.specs.Marks.{lowMark}
+use Rattle.sad_bi.specs.Marks.{lowMark}
 use Rattle.plane_tests.proofs.Planes.{row-in}
 use Rattle.block_rows.specs.Totals.{Totalled}
 use Rattle.block_rows.specs.Edges.{edgeCell}

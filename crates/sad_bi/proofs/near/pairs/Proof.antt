@@ -10,7 +10,7 @@ use mir.Syntax.{w16}
 use mir.Val.{toZ, ofZ}
 use mir.Facts.{toZ-ofZ}
 use Rattle.integers.proofs.Bits.{back}
-use Rattle.sample_tests.specs.Marks.{lowMark}
+use Rattle.sad_bi.specs.Marks.{lowMark}
 use Rattle.block_rows.specs.Totals.{Totalled}
 use Rattle.sad_bi.specs.Near.{nearBi}
 use Rattle.sad_bi.proofs.Pairs.{Paired, paired-start, paired-step, paired-end}

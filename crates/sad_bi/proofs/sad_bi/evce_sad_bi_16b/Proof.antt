@@ -13,7 +13,7 @@ use Rattle.plane_tests.specs.Blocks.{cell}
 use Rattle.plane_tests.proofs.Planes.{well-formed}
 use Rattle.plane_tests.proofs.Replies.{rest-alike}
 use Rattle.block_rows.specs.Edges.{edgeCell, AtEdges}
-use Rattle.block_rows.proofs.Sads.{sad-alike, sad-size, sad-depth, sad-area, sad-second, sad-rest}
+use Rattle.sad_answer.proofs.Sads.{sad-alike, sad-size, sad-depth, sad-area, sad-second, sad-rest}
 use Rattle.block_rows.proofs.AtEdges.{edges-in, edges-alike, as-bits, of-bits}
 use Rattle.sad_bi.specs.Totals.{BiCounted}
 use Rattle.sad_bi.proofs.Ends.{bi-alike, bi-totalled}

@@ -12,7 +12,7 @@ use Rattle.evc.proofs.Tests.{outside-no}
 use Rattle.plane_tests.specs.Areas.{badPlane, outsidePlane}
 use Rattle.plane_tests.proofs.Planes.{well-formed, is-inside, plane-alike}
 use Rattle.plane_tests.proofs.Replies.{rest-alike}
-use Rattle.block_rows.proofs.Sads.{sad-alike, sad-size, sad-depth, sad-area, sad-second, sad-rest}
+use Rattle.sad_answer.proofs.Sads.{sad-alike, sad-size, sad-depth, sad-area, sad-second, sad-rest}
 use Rattle.plane_tests.specs.Blocks.{cell}
 use Rattle.sad_bi.proofs.Ends.{bi-alike, bi-totalled}
 use Rattle.sad_bi.proofs.sad_bi.evce_sad_bi_16i.Statement.{statement}

@@ -1,29 +1,25 @@
 -- `ssd::ssd::end` meets its contract. Assumes nothing.
-use Prim.Native.Nat.{_^_}
+use mathlib.Core.Path.{sym, _∙_}
 use native.Mathlib.Omega.{arith}
-use borrow.Author.Tests.{le-leb, lt-leb}
 use mir.Syntax.{w64}
 use mir.Facts.{toZ-pos}
-use Rattle.integers.proofs.Bits.{div-some, div-none}
 use borrow.Author.Needs.{needs}
 use Rattle.ssd.proofs.ssd.end.Statement.{statement}
 use Rattle.ssd.proofs.ssd.end.Tie as tie
 
-shr-if1 : tie.Need-shr-if1
-shr-if1 c = search needs
+bad-samples-requires : tie.Need-bad-samples-requires
+bad-samples-requires c κs = search needs
 
 returns : tie.Need-returns
-returns c =
-    let a = c .before .before .args in
-    rw (le-leb (2 ^ a .depth) (a .t .any) (div-some (a .t .any) (a .depth) (c .if1 .taken)))
+returns c = rw (sym (c .before .bad-samples .ensures) ∙ c .if1 .taken)
 
 cast-ssd : tie.Need-cast-ssd
 cast-ssd c = search needs
 
 returns-2 : tie.Need-returns-2
 returns-2 c =
-    let a = c .before .before .before .args in
-    rw (toZ-pos w64 {n = a .t .sum} (omega (arith, c .before .before .before .pre)), lt-leb (2 ^ a .depth) (a .t .any) (div-none (a .t .any) (a .depth) (c .before .if1 .left)))
+    let s = c .before .before .before in
+    rw (toZ-pos w64 {n = s .args .t .sum} (omega (arith, s .pre)), sym (c .before .before .bad-samples .ensures) ∙ c .before .if1 .left)
 
 pub end-spec : {M : Type 1} → statement M
-end-spec = tie.close (tie.spec shr-if1 returns cast-ssd returns-2)
+end-spec = tie.close (tie.spec bad-samples-requires returns cast-ssd returns-2)

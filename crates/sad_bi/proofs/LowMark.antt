@@ -8,7 +8,7 @@ use lib.IntN.{ℤ}
 use lib.Pow.{pow-pos, pow-mono}
 use borrow.Author.Tests.{le-leb, lt-leb}
 use Rattle.evc.specs.Planes.{tooLow}
-use Rattle.sample_tests.specs.Marks.{lowMark}
+use Rattle.sad_bi.specs.Marks.{lowMark}
 
 -- it reaches every depth exactly where the value is too low
 pub low-marked : (depth : ℕ) (v : ℤ) → depth ≤ 14 → tooLow v ≡ leb (2 ^ depth) (lowMark v)

@@ -9,7 +9,7 @@ use Rattle.evc.specs.declared.Refusal.the-variants.{Sample}
 use Rattle.evc.specs.Tests.{_when_, first, reply}
 use Rattle.evc.specs.Calls.{depthTest}
 use Rattle.evc.proofs.Tests.{inside-no}
-use Rattle.sample_tests.specs.Marks.{in32}
+use Rattle.sad_answer.specs.In32.{in32}
 
 pub answered :
     (sum any depth : ℕ) → (8 ≤ depth) × (depth ≤ 14) → sum ≤ 4294967295 →

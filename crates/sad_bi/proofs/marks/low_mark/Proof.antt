@@ -1,13 +1,13 @@
--- `sample_tests::marks::low_mark` meets its contract. Assumes nothing.
+-- `sad_bi::marks::low_mark` meets its contract. Assumes nothing.
 use mathlib.Core.Path.{sym, ap, _∙_}
 use mathlib.Core.Bool.{Bool, cond}
 use Prim.Native.Nat.{ℕ}
 use lib.IntN.{ℤ, pos, negℤ}
 use lib.Signed.{ltZ}
 use mir.Facts.{toZ-ofZ}
-use Rattle.sample_tests.specs.Marks.{lowMark}
-use Rattle.sample_tests.proofs.marks.low_mark.Statement.{statement}
-use Rattle.sample_tests.proofs.marks.low_mark.Tie as tie
+use Rattle.sad_bi.specs.Marks.{lowMark}
+use Rattle.sad_bi.proofs.marks.low_mark.Statement.{statement}
+use Rattle.sad_bi.proofs.marks.low_mark.Tie as tie
 
 -- the test is of the value's bits
 limit : ℤ → Bool
