@@ -1,7 +1,7 @@
 -- Blocks at positions that may be negative: that an accepted call reads inside the plane; and how such a block is read where it stands, or row
 -- by row. Assumes nothing.
 use mathlib.Core.Path.{_≡_, refl, sym, ap, ap₂, _∙_, subst₂}
-use mathlib.Core.Bool.{false, _||_}
+use mathlib.Core.Bool.{Bool, false, _||_}
 use mathlib.Core.List.{List}
 use Prim.Native.Nat.{ℕ, _+_, _*_, _-_, _≤_, _<_}
 use native.Mathlib.Nat.{add-mul, mul-le-mul-right, le-of-eq}
@@ -25,7 +25,8 @@ use Rattle.plane_tests.specs.Blocks.{cell}
 use Rattle.plane_tests.proofs.Planes.{well-formed}
 use Rattle.plane_tests.proofs.Far.{not-past}
 use Rattle.plane_tests.proofs.Replies.{Alike}
-use Rattle.block_rows.specs.Edges.{edgeCell, EdgesIn}
+use Rattle.block_rows.specs.Edges.{edgeCell, edgeRow, EdgesIn}
+use Rattle.block_rows.proofs.Cells.{Same, SameBlock}
 use Rattle.block_rows.proofs.Marked.{samples}
 
 -- a position that doesn't reach past a side reads below it
@@ -63,39 +64,55 @@ pub edges-alike : (l : List ℕ) (width height stride : ℕ) (x y : ℤ) (w h de
 unfolding edgeCell
 edges-alike l width height stride x y w h depth = record { reads = λ j i p q. refl; bad = λ v. refl }
 
--- a signed argument that is passed on comes as its bits
+-- ---- a signed argument that is passed on comes as its bits
 pub as-bits : (P : ℤ → ℤ → Type 0) {x y : ℤ} → SFits w16 x → SFits w16 y → P x y → P (toZ w16 (ofZ w16 x)) (toZ w16 (ofZ w16 y))
 as-bits P f g p = subst₂ P (sym (toZ-ofZ f)) (sym (toZ-ofZ g)) p
 
 pub of-bits : (P : ℤ → ℤ → Type 0) {x y : ℤ} → SFits w16 x → SFits w16 y → P (toZ w16 (ofZ w16 x)) (toZ w16 (ofZ w16 y)) → P x y
 of-bits P f g p = subst₂ P (toZ-ofZ f) (toZ-ofZ g) p
 
--- neither position is negative
+edge-bits : {y : ℤ} {row : ℕ} (j : ℕ) → SFits w16 y → row ≡ edge (toZ w16 (ofZ w16 y) +ℤ pos j) → row ≡ edge (y +ℤ pos j)
+edge-bits {y} j f e = e ∙ ap (λ (z : ℤ). edge (z +ℤ pos j)) (toZ-ofZ f)
+
+-- ---- where neither position is negative
 pub record Plain (x y : ℤ) : Type 0 where
   pub across : pos 0 ≤ℤ x
   pub down : pos 0 ≤ℤ y
 
-pub is-plain : (x y : ℤ) → ltZ x (pos 0) || ltZ y (pos 0) ≡ false → Plain x y
-is-plain x y e =
+pub is-plain :
+    {x y : ℤ} {r : Bool} → SFits w16 x → SFits w16 y → r ≡ ltZ (toZ w16 (ofZ w16 x)) (pos 0) || ltZ (toZ w16 (ofZ w16 y)) (pos 0) → r ≡ false → Plain x y
+is-plain {x} {y} {r} f g e n =
     let a = ltZ x (pos 0) in
     let b = ltZ y (pos 0) in
-    record { across = lt-failed x (pos 0) (neither-left a b e); down = lt-failed y (pos 0) (neither-right a b e) }
+    let k : a || b ≡ false = sym (of-bits (λ x y. r ≡ ltZ x (pos 0) || ltZ y (pos 0)) f g e) ∙ n in
+    record { across = lt-failed x (pos 0) (neither-left a b k); down = lt-failed y (pos 0) (neither-right a b k) }
 
 sum-edge : (x : ℤ) (i : ℕ) → pos 0 ≤ℤ x → edge (x +ℤ pos i) ≡ edge (x +ℤ pos 0) + i
 sum-edge (pos n) i p = omega arith
 sum-edge (negsuc n) i p = let z : ⊥ = omega signed in absurd z
 
--- where neither position is negative, the block stands in the plane, from its first sample on
-module _ (l : List ℕ) (stride : ℕ) (x y : ℤ) (w h start : ℕ) (t : Plain x y) (e : start ≡ edge (y +ℤ pos 0) * stride + edge (x +ℤ pos 0)) where
-  pub plain-at : (j i : ℕ) → cell 0 l start stride j i ≡ edgeCell l stride x y j i
-  unfolding cell edgeCell
-  plain-at j i =
-      let d = add-mul (edge (y +ℤ pos 0)) j stride in
-      let f : start + j * stride + i ≡ (edge (y +ℤ pos 0) + j) * stride + (edge (x +ℤ pos 0) + i) = omega arith in
-      ap (λ (k : ℕ). getD l k 0) (f ∙ sym (ap₂ (λ (a b : ℕ). a * stride + b) (sum-edge y j (t .down)) (sum-edge x i (t .across))))
+-- where the block's first sample stands, and that it stands in the plane
+module _ (stride : ℕ) {x y : ℤ} {row column : ℕ} (f : SFits w16 x) (g : SFits w16 y) (e : (row ≡ edge (toZ w16 (ofZ w16 y) +ℤ pos 0)) × (column ≡ edge (toZ w16 (ofZ w16 x) +ℤ pos 0))) where
+  pub stands : row * stride + column ≡ edge (y +ℤ pos 0) * stride + edge (x +ℤ pos 0)
+  stands = ap₂ (λ (m n : ℕ). m * stride + n) (edge-bits 0 g (e .0)) (edge-bits 0 f (e .1))
 
-  pub plain-inside : EdgesIn (length l) stride x y w h → reach start w stride h ≤ length l
-  plain-inside k =
+  pub stands-in : {n w h : ℕ} → EdgesIn n stride x y w h → row * stride + column < n
+  stands-in k = omega (arith, stands, k .reads 0 0 (k .high) (k .wide))
+
+-- the block stands in the plane from that sample on
+module _ (stride : ℕ) {start : ℕ} {x y : ℤ} (t : Plain x y) (e : start ≡ edge (y +ℤ pos 0) * stride + edge (x +ℤ pos 0)) where
+  pub plain-same : (l : List ℕ) → SameBlock (cell 0 l start stride) (edgeCell l stride x y)
+  unfolding cell edgeCell
+  plain-same l = record {
+    at =
+        λ j i.
+        let d = add-mul (edge (y +ℤ pos 0)) j stride in
+        let f : start + j * stride + i ≡ (edge (y +ℤ pos 0) + j) * stride + (edge (x +ℤ pos 0) + i) = omega arith in
+        ap (λ (k : ℕ). getD l k 0) (f ∙ sym (ap₂ (λ (a b : ℕ). a * stride + b) (sum-edge y j (t .down)) (sum-edge x i (t .across))));
+  }
+
+  pub plain-inside : {n w h : ℕ} → EdgesIn n stride x y w h → reach start w stride h ≤ n
+  plain-inside {n} {w} {h} k =
       let a = k .wide in
       let b = k .high in
       let last = k .reads (h - 1) (w - 1) (omega arith) (omega arith) in
@@ -103,12 +120,22 @@ module _ (l : List ℕ) (stride : ℕ) (x y : ℤ) (w h start : ℕ) (t : Plain 
       let d = add-mul (edge (y +ℤ pos 0)) (h - 1) stride in
       omega arith
 
--- row j of such a block, as the part of the plane from where the row starts reads it
-pub edge-at :
-    (l : List ℕ) (stride : ℕ) (x y : ℤ) (base j i : ℕ) → base ≡ edge (y +ℤ pos j) * stride →
-    getD (take (length l - base) (drop base l)) (edge (x +ℤ pos i)) 0 ≡ edgeCell l stride x y j i
+-- ---- row by row
+-- row j starts in the plane
+pub row-starts :
+    {n stride w h j row : ℕ} {x y : ℤ} → EdgesIn n stride x y w h → SFits w16 y → j < h → row ≡ edge (toZ w16 (ofZ w16 y) +ℤ pos j) → row * stride < n
+row-starts {stride = stride} {j = j} k f p e = omega (arith, ap (λ (m : ℕ). m * stride) (edge-bits j f e), k .reads j 0 p (k .wide))
+
+-- and the part of the plane from there on is read as the block's row
+pub edge-same :
+    (l : List ℕ) (stride : ℕ) (x y : ℤ) {w row : ℕ} (j : ℕ) → row ≡ edge (y +ℤ pos j) →
+    Same w (edgeRow (take (length l - row * stride) (drop (row * stride) l)) x) (edgeCell l stride x y j)
 unfolding edgeCell
-edge-at l stride x y base j i e =
-    let k = edge (x +ℤ pos i) in
-    ap (λ (r : List ℕ). getD r k 0) (take-all (length l - base) (drop base l) (le-of-eq (length-drop base l)))
-    ∙ getD-drop base l k 0 ∙ ap (λ (n : ℕ). getD l (n + k) 0) e
+edge-same l stride x y {row = row} j e = record {
+  at =
+      λ i p.
+      let k = edge (x +ℤ pos i) in
+      let base = row * stride in
+      ap (λ (r : List ℕ). getD r k 0) (take-all (length l - base) (drop base l) (le-of-eq (length-drop base l)))
+      ∙ getD-drop base l k 0 ∙ ap (λ (n : ℕ). getD l (n * stride + k) 0) e;
+}

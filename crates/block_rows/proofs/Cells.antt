@@ -1,17 +1,16 @@
--- Rows of a block: what a row's values are, what two rows told says of two blocks, and how much the rows may add up to. Assumes nothing.
-use mathlib.Core.Path.{_≡_, sym, ap, ap₂, _∙_, subst, subst₂}
+-- Rows of a block: what their values are, and that blocks whose rows are read alike add up to the same. Assumes nothing.
+use mathlib.Core.Path.{_≡_, refl, sym, ap, ap₂, _∙_, subst, subst₂}
 use mathlib.Core.List.{List}
 use Prim.Native.Nat.{ℕ, _+_, _*_, _-_, _≤_, _<_}
-use native.Mathlib.Nat.{le-trans, le-of-eq, mul-le-mul-right}
 use native.Mathlib.Omega.{arith}
 use lib.ListN.{length, getD, take, drop, length-take, length-drop}
 use lib.Seq.{getD-take, getD-drop}
-use Rattle.integers.specs.Sum.{ofN+, sumN}
+use Rattle.integers.specs.Sum.{Addition, ofN+, sum, sumN}
 use Rattle.integers.specs.Or.{ofOr, orN}
-use Rattle.integers.proofs.Sum.{sum-ext, sum-le}
+use Rattle.integers.proofs.Sum.{sum-ext}
 use Rattle.plane_tests.specs.Blocks.{TwoBlocks, cell}
 use Rattle.plane_tests.proofs.Planes.{in-one, in-two}
-use Rattle.block_rows.specs.Totals.{Totalled, Compared, TwoRows}
+use Rattle.block_rows.specs.Totals.{TwoRows, Totalled, valueAt, RowsTotalled, BlocksTotalled}
 
 -- row j of a block whose rows stand a stride t apart in l, from s on
 unfoldable pub rowOf : {A : Type 0} → List A → ℕ → ℕ → ℕ → ℕ → List A
@@ -37,72 +36,60 @@ module _ {A : Type 0} (l : List A) (s t j w : ℕ) where
   pub part-at : (d : A) (i : ℕ) → i < w → getD (take (s + j * t + w - (s + j * t)) (drop (s + j * t) l)) i d ≡ cell d l s t j i
   part-at d i h = ap (λ (r : List A). getD r i d) row-part ∙ row-at d i h
 
--- of packed rows
-pub packed-part : {A : Type 0} (l : List A) (j w : ℕ) → take (j * w + w - j * w) (drop (j * w) l) ≡ rowOf l 0 w j w
-unfolding rowOf
-packed-part l j w =
-    let e : j * w + w - j * w ≡ w = omega arith in
-    let f : j * w ≡ 0 + j * w = omega arith in
-    ap₂ (λ (n m : ℕ). take n (drop m l)) e f
+-- two such parts are rows of as many values as the blocks are wide
+pub two-parts :
+    {A B : Type 0} (a : List A) (b : List B) {w h s t s′ t′ j : ℕ} → TwoBlocks w h (length a) s t (length b) s′ t′ → j < h →
+    TwoRows w (take (s + j * t + w - (s + j * t)) (drop (s + j * t) a)) (take (s′ + j * t′ + w - (s′ + j * t′)) (drop (s′ + j * t′) b))
+two-parts a b {w} {h} {s} {t} {s′} {t′} {j} k n =
+    record { one = part-length a s t j w (in-one k n); two = part-length b s′ t′ j w (in-two k n); small = k .narrow }
 
-pub packed-length : {A : Type 0} (l : List A) (j w : ℕ) → 0 + j * w + w ≤ length l → length (take (j * w + w - j * w) (drop (j * w) l)) ≡ w
-packed-length l j w h = ap length (packed-part l j w) ∙ row-length l 0 w j w h
+-- ---- rows that are read alike
+pub record Same {A : Type 0} (w : ℕ) (F G : ℕ → A) : Type 0 where
+  pub at : (i : ℕ) → i < w → F i ≡ G i
 
-pub packed-at : {A : Type 0} (l : List A) (j w : ℕ) (d : A) (i : ℕ) → i < w → getD (take (j * w + w - j * w) (drop (j * w) l)) i d ≡ cell d l 0 w j i
-packed-at {A} l j w d i h = ap (λ (r : List A). getD r i d) (packed-part l j w) ∙ row-at l 0 w j w d i h
+pub same : {A : Type 0} {w : ℕ} (F : ℕ → A) → Same w F F
+same F = record { at = λ i p. refl }
 
--- two rows are as long as the blocks are wide
-pub two-rows :
-    {A B : Type 0} (w h : ℕ) (a : List A) (s t : ℕ) (b : List B) (s′ t′ : ℕ) → TwoBlocks w h (length a) s t (length b) s′ t′ →
-    (j : ℕ) → j < h → (p : List A) (q : List B) → p ≡ rowOf a s t j w → q ≡ rowOf b s′ t′ j w → TwoRows w p q
-two-rows w h a s t b s′ t′ k j n p q e f = record {
-  one = ap length e ∙ row-length a s t j w (in-one k n);
-  two = ap length f ∙ row-length b s′ t′ j w (in-two k n);
-  small = k .narrow;
+pub part-same :
+    {A : Type 0} (d : A) (l : List A) (s t j w : ℕ) → Same w (valueAt d (take (s + j * t + w - (s + j * t)) (drop (s + j * t) l))) (cell d l s t j)
+part-same d l s t j w = record { at = part-at l s t j w d }
+
+-- add up to the same
+pub rows-alike :
+    {A B : Type 0} (f g : A → B → ℕ) {b w x y : ℕ} {F F′ : ℕ → A} {G G′ : ℕ → B} → Same w F F′ → Same w G G′ → RowsTotalled b f g w F G x y →
+    RowsTotalled b f g w F′ G′ x y
+rows-alike f g {w = w} {F = F} {F′} {G} {G′} p q t = record {
+  total = t .total ∙ sum-ext ofN+ w (λ i. f (F i) (G i)) (λ i. f (F′ i) (G′ i)) (λ i n. ap₂ f (p .at i n) (q .at i n));
+  marks = t .marks ∙ sum-ext ofOr w (λ i. g (F i) (G i)) (λ i. g (F′ i) (G′ i)) (λ i n. ap₂ g (p .at i n) (q .at i n));
+  most = t .most;
 }
 
-pub totalled-ext : {w s m : ℕ} {f g : ℕ → ℕ} (f′ g′ : ℕ → ℕ) → Totalled w f g s m → ((i : ℕ) → i < w → f i ≡ f′ i) → ((i : ℕ) → i < w → g i ≡ g′ i) → Totalled w f′ g′ s m
-totalled-ext {w} {s} {m} {f} {g} f′ g′ t p q = record { total = t .total ∙ sum-ext ofN+ w f f′ p; marks = t .marks ∙ sum-ext ofOr w g g′ q }
+-- ---- and so do blocks
+pub record SameBlock {A : Type 0} (F G : ℕ → ℕ → A) : Type 0 where
+  pub at : (j i : ℕ) → F j i ≡ G j i
 
-pub compared-ext :
-    {w h s m : ℕ} {f g : ℕ → ℕ → ℕ} (f′ g′ : ℕ → ℕ → ℕ) → Compared w h f g s m → ((j i : ℕ) → j < h → i < w → f j i ≡ f′ j i) →
-    ((j i : ℕ) → j < h → i < w → g j i ≡ g′ j i) → Compared w h f′ g′ s m
-compared-ext {w} {h} {s} {m} {f} {g} f′ g′ t p q =
-    totalled-ext (λ j. sumN w (f′ j)) (λ j. orN w (g′ j)) t (λ j n. sum-ext ofN+ w (f j) (f′ j) (λ i k. p j i n k))
-    (λ j n. sum-ext ofOr w (g j) (g′ j) (λ i k. q j i n k))
+pub same-block : {A : Type 0} (F : ℕ → ℕ → A) → SameBlock F F
+same-block F = record { at = λ j i. refl }
 
--- what is told of two rows, said of what they read: F and G
-totalled-at :
-    {A B : Type 0} (f g : A → B → ℕ) (d : A) (e : B) (w : ℕ) (F : ℕ → A) (G : ℕ → B) {x y : ℕ} (p : List A) (q : List B) → ((i : ℕ) → i < w → getD p i d ≡ F i) →
-    ((i : ℕ) → i < w → getD q i e ≡ G i) → Totalled w (λ i. f (getD p i d) (getD q i e)) (λ i. g (getD p i d) (getD q i e)) x y →
-    Totalled w (λ i. f (F i) (G i)) (λ i. g (F i) (G i)) x y
-totalled-at f g d e w F G p q h k t =
-    totalled-ext (λ i. f (F i) (G i)) (λ i. g (F i) (G i)) t (λ i n. ap₂ f (h i n) (k i n)) (λ i n. ap₂ g (h i n) (k i n))
+module _ {A B : Type 0} (m : Addition ℕ) (f : A → B → ℕ) {F F′ : ℕ → ℕ → A} {G G′ : ℕ → ℕ → B} (p : SameBlock F F′) (q : SameBlock G G′) where
+  pub sums-alike : (w h : ℕ) → sum m h (λ j. sum m w (λ i. f (F j i) (G j i))) ≡ sum m h (λ j. sum m w (λ i. f (F′ j i) (G′ j i)))
+  sums-alike w h =
+      sum-ext m h (λ j. sum m w (λ i. f (F j i) (G j i))) (λ j. sum m w (λ i. f (F′ j i) (G′ j i)))
+      (λ j k. sum-ext m w (λ i. f (F j i) (G j i)) (λ i. f (F′ j i) (G′ j i)) (λ i n. ap₂ f (p .at j i) (q .at j i)))
 
--- of two rows of blocks
-module _ {A B : Type 0} (f g : A → B → ℕ) (d : A) (e : B) (a : List A) (s t : ℕ) (b : List B) (s′ t′ j w : ℕ) where
-  pub totalled-rows :
-      {x y : ℕ} (p : List A) (q : List B) → p ≡ rowOf a s t j w → q ≡ rowOf b s′ t′ j w →
-      Totalled w (λ i. f (getD p i d) (getD q i e)) (λ i. g (getD p i d) (getD q i e)) x y →
-      Totalled w (λ i. f (cell d a s t j i) (cell e b s′ t′ j i)) (λ i. g (cell d a s t j i) (cell e b s′ t′ j i)) x y
-  totalled-rows p q h k r =
-      totalled-at f g d e w (cell d a s t j) (cell e b s′ t′ j) p q (λ i n. ap (λ (l : List A). getD l i d) h ∙ row-at a s t j w d i n)
-      (λ i n. ap (λ (l : List B). getD l i e) k ∙ row-at b s′ t′ j w e i n) r
+pub blocks-alike :
+    {A B : Type 0} (f g : A → B → ℕ) (w : ℕ) {b h x y : ℕ} {F F′ : ℕ → ℕ → A} {G G′ : ℕ → ℕ → B} → SameBlock F F′ → SameBlock G G′ →
+    BlocksTotalled b f g w h F G x y → BlocksTotalled b f g w h F′ G′ x y
+blocks-alike f g w {h = h} p q t =
+    record { total = t .total ∙ sums-alike ofN+ f p q w h; marks = t .marks ∙ sums-alike ofOr g p q w h; most = t .most }
 
--- a row of at most 64
-pub row-most : (w b : ℕ) (f : ℕ → ℕ) → w ≤ 64 → ((i : ℕ) → f i ≤ b) → sumN w f ≤ 64 * b
-row-most w b f h k = le-trans (sum-le w b f (λ i p. k i)) (mul-le-mul-right b h)
+-- ---- sides that literals name
+-- f gives what is added, g what is ORed
+abbrev Sized : (f g : ℕ → ℕ → ℕ) (b x y w h : ℕ) → Type 0
+Sized f g b x y w h = Totalled b h (λ j. sumN w (f j)) (λ j. orN w (g j)) x y
 
-pub totalled-most : {w s m : ℕ} {f g : ℕ → ℕ} (b : ℕ) → Totalled w f g s m → w ≤ 64 → ((i : ℕ) → f i ≤ b) → s ≤ 64 * b
-totalled-most {w} {s} {m} {f} b t h k = le-trans (le-of-eq (t .total)) (row-most w b f h k)
+pub blocks-at : (f g : ℕ → ℕ → ℕ) {b h x y : ℕ} (w k : ℕ) → w ≡ k → Sized f g b x y k h → Sized f g b x y w h
+blocks-at f g {b} {h} {x} {y} w k e t = subst (λ (n : ℕ). Sized f g b x y n h) (sym e) t
 
--- a width that a literal names
-pub compared-at : (w k h : ℕ) (f g : ℕ → ℕ → ℕ) {s m : ℕ} → w ≡ k → Compared k h f g s m → Compared w h f g s m
-compared-at w k h f g {s} {m} e t = subst (λ (n : ℕ). Compared n h f g s m) (sym e) t
-
-pub compared-four : (w h : ℕ) (f g : ℕ → ℕ → ℕ) {s m : ℕ} → w ≡ 4 → h ≡ 4 → Compared 4 4 f g s m → Compared w h f g s m
-compared-four w h f g {s} {m} p q t = subst₂ (λ (a b : ℕ). Compared a b f g s m) (sym p) (sym q) t
-
--- a block of at most 64 by 64
-pub compared-most : (w h b : ℕ) (f g : ℕ → ℕ → ℕ) {s m : ℕ} → Compared w h f g s m → w ≤ 64 → h ≤ 64 → ((j i : ℕ) → f j i ≤ b) → s ≤ 64 * (64 * b)
-compared-most w h b f g t p q k = totalled-most (64 * b) t q (λ j. row-most w b (f j) p (k j))
+pub blocks-four : (f g : ℕ → ℕ → ℕ) {b x y : ℕ} (w h : ℕ) → w ≡ 4 → h ≡ 4 → Sized f g b x y 4 4 → Sized f g b x y w h
+blocks-four f g {b} {x} {y} w h d e t = subst₂ (Sized f g b x y) (sym d) (sym e) t

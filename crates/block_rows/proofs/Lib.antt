@@ -1,7 +1,6 @@
 -- Laws that the crates that compare blocks share.
 pub mod Signed
 mod Reading
-pub mod Samples
 pub mod Running
 pub mod Cells
 pub mod Line

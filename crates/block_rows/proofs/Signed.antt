@@ -1,10 +1,11 @@
--- Positions that may be negative: where they read. Assumes nothing.
-use mathlib.Core.Path.{_≡_, refl, ap}
+-- Positions that may be negative: where they read, and the sign that code turns. Assumes nothing.
+use mathlib.Core.Path.{_≡_, refl, ap, _∙_}
 use Prim.Native.Nat.{ℕ, suc, _+_, _≤_, _<_}
 use native.Mathlib.Nat.{not-suc-le-zero}
 use native.Mathlib.Omega.{arith}
 use lib.IntN.{ℤ, pos, negsuc, _+ℤ_, _-ℤ_, negℤ, natAbs, +ℤ-idl}
 use lib.Signed.{_≤ℤ_, _<ℤ_}
+use Rattle.integers.proofs.Bound.{abs-neg}
 use Rattle.integers.proofs.Dif.{up, dn}
 use Rattle.integers.proofs.Order.{signed}
 use Rattle.integers.proofs.Parts.{sum-parts}
@@ -29,7 +30,10 @@ edge-over (negsuc n) i h = go (negsuc n +ℤ pos i) (negsuc n +ℤ pos 0) (sum-p
     go (pos m) (negsuc k) e f = omega arith
     go (negsuc m) y e f = let z : ⊥ = omega arith in absurd z
 
--- the code's negation
+-- ---- the code's negation
+pub abs-minus : (z : ℤ) → natAbs (pos 0 -ℤ z) ≡ natAbs z
+abs-minus z = ap natAbs (+ℤ-idl (negℤ z)) ∙ abs-neg z
+
 pub minus-behind : (x : ℤ) → x <ℤ pos 0 → natAbs (pos 0 -ℤ x) ≡ behind x
 minus-behind (pos n) h = let z : ⊥ = omega signed in absurd z
 minus-behind (negsuc n) h = ap natAbs (+ℤ-idl (negℤ (negsuc n)))

@@ -11,6 +11,10 @@ use Rattle.evc.specs.Planes.{edge}
 unfoldable pub edgeCell : List ℕ → ℕ → ℤ → ℤ → ℕ → ℕ → ℕ
 edgeCell l stride x y j i = getD l (edge (y +ℤ pos j) * stride + edge (x +ℤ pos i)) 0
 
+-- what the i-th place reads of a row that is read at the columns from x on
+abbrev pub edgeRow : List ℕ → ℤ → ℕ → ℕ
+edgeRow l x i = getD l (edge (x +ℤ pos i)) 0
+
 -- how far x lies below 0
 abbrev pub behind : ℤ → ℕ
 behind (pos n) = 0

@@ -2,7 +2,6 @@
 use mathlib.Core.Path.{_≡_}
 use mathlib.Core.List.{List}
 use Prim.Native.Nat.{ℕ, _≤_}
-use lib.Bits.{bitOr}
 use lib.ListN.{length, getD}
 use lib.IntN.{pos, natAbs, _-ℤ_}
 use Rattle.integers.specs.Sum.{sumN}
@@ -19,20 +18,21 @@ pub record TwoRows {A B : Type 0} (w : ℕ) (a : List A) (b : List B) : Type 0 w
   pub two : length b ≡ w
   pub small : w ≤ 64
 
--- what f gives at w places, added, and what g gives there, ORed
-pub record Totalled (w : ℕ) (f g : ℕ → ℕ) (sum any : ℕ) : Type 0 where
+-- what f gives at w places, added, which is at most b; and what g gives there, ORed
+pub record Totalled (b w : ℕ) (f g : ℕ → ℕ) (sum any : ℕ) : Type 0 where
   pub total : sum ≡ sumN w f
   pub marks : any ≡ orN w g
+  pub most : sum ≤ b
 
--- the same of two rows: f of the samples at each place, and their OR
-abbrev pub RowsTotalled : (ℕ → ℕ → ℕ) → ℕ → List ℕ → List ℕ → ℕ → ℕ → Type 0
-RowsTotalled f w a b sum any = Totalled w (λ i. f (getD a i 0) (getD b i 0)) (λ i. bitOr (getD a i 0) (getD b i 0)) sum any
+-- the i-th value of a row
+abbrev pub valueAt : {A : Type 0} → A → List A → ℕ → A
+valueAt d l i = getD l i d
+
+-- the same of two rows, of which F and G say what is read at each place
+abbrev pub RowsTotalled : {A B : Type 0} → ℕ → (A → B → ℕ) → (A → B → ℕ) → ℕ → (ℕ → A) → (ℕ → B) → ℕ → ℕ → Type 0
+RowsTotalled b f g w F G sum any = Totalled b w (λ i. f (F i) (G i)) (λ i. g (F i) (G i)) sum any
 
 -- ---- blocks
--- what f gives at w by h places, added row by row, and what g gives there, ORed
-abbrev pub Compared : ℕ → ℕ → (ℕ → ℕ → ℕ) → (ℕ → ℕ → ℕ) → ℕ → ℕ → Type 0
-Compared w h f g sum any = Totalled h (λ j. sumN w (f j)) (λ j. orN w (g j)) sum any
-
--- the same of two blocks of samples, given by what row j, column i of each reads
-abbrev pub BlocksTotalled : (ℕ → ℕ → ℕ) → ℕ → ℕ → (ℕ → ℕ → ℕ) → (ℕ → ℕ → ℕ) → ℕ → ℕ → Type 0
-BlocksTotalled f w h A B sum any = Compared w h (λ j i. f (A j i) (B j i)) (λ j i. bitOr (A j i) (B j i)) sum any
+-- the same of two blocks, row by row: F and G say what row j, column i of each reads
+abbrev pub BlocksTotalled : {A B : Type 0} → ℕ → (A → B → ℕ) → (A → B → ℕ) → ℕ → ℕ → (ℕ → ℕ → A) → (ℕ → ℕ → B) → ℕ → ℕ → Type 0
+BlocksTotalled b f g w h F G sum any = Totalled b h (λ j. sumN w (λ i. f (F j i) (G j i))) (λ j. orN w (λ i. g (F j i) (G j i))) sum any

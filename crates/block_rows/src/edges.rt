@@ -9,7 +9,7 @@ ghost use lib.Signed.{ltZ};
 ghost use lib.ListN.{length, getD};
 ghost use Rattle.integers.specs.Lists.{tab};
 ghost use Rattle.evc.specs.Planes as plane;
-ghost use Rattle.block_rows.specs.Edges.{behind, Least};
+ghost use Rattle.block_rows.specs.Edges.{behind, edgeRow, Least};
 use crate::Place;
 
 // Where the i-th position from p on reads: the larger of it and 0.
@@ -67,7 +67,7 @@ fn sample(row: &[u16], at: usize) -> u16
 // A row's samples at the columns from x on: its first at each negative one, then those from the edge on, and zeros past its end. The loops copy
 // runs of samples, which compilers turn into vector code.
 fn long_row(row: &[u16], x: i16, out: &mut [u16])
-    ensures { λ _. ⌜ now (out .exit) ≡ tab (length (now (out .entry))) (λ i. getD (now (row .entry)) (plane.edge (x +ℤ pos i)) 0) ⌝ }
+    ensures { λ _. ⌜ now (out .exit) ≡ tab (length (now (out .entry))) (edgeRow (now (row .entry)) x) ⌝ }
 {
     let w = out.len();
     let up = edge(x, 0);
@@ -88,7 +88,7 @@ fn long_row(row: &[u16], x: i16, out: &mut [u16])
 // The same, sample by sample: for rows that are too short for vector code.
 fn short_row(row: &[u16], x: i16, out: &mut [u16])
     requires { ⌜ length (now out) ≤ 4 ⌝ }
-    ensures { λ _. ⌜ now (out .exit) ≡ tab (length (now (out .entry))) (λ i. getD (now (row .entry)) (plane.edge (x +ℤ pos i)) 0) ⌝ }
+    ensures { λ _. ⌜ now (out .exit) ≡ tab (length (now (out .entry))) (edgeRow (now (row .entry)) x) ⌝ }
 {
     for i in 0..out.len() {
         out[i] = sample(row, edge(x, i as u16));
@@ -97,7 +97,7 @@ fn short_row(row: &[u16], x: i16, out: &mut [u16])
 
 // The same, by the one that suits the width.
 pub fn edge_row(row: &[u16], x: i16, out: &mut [u16])
-    ensures { λ _. ⌜ now (out .exit) ≡ tab (length (now (out .entry))) (λ i. getD (now (row .entry)) (plane.edge (x +ℤ pos i)) 0) ⌝ }
+    ensures { λ _. ⌜ now (out .exit) ≡ tab (length (now (out .entry))) (edgeRow (now (row .entry)) x) ⌝ }
 {
     if out.len() <= 4 {
         short_row(row, x, &mut out[..]);

@@ -1,21 +1,19 @@
 // Two blocks, of which the second stands at a position that may be negative. Document 01, "Distortion".
 // Differs from the Rust in: where neither position is negative, the block is compared where it stands.
 ghost use mathlib.Core.Path.{_≡_};
-ghost use Prim.Native.Nat.{_≤_};
+ghost use Prim.Native.Nat.{_*_, _≤_};
 ghost use lib.Bits.{bitOr};
-ghost use lib.IntN.{pos, _+ℤ_};
-ghost use lib.ListN.{length, getD};
-ghost use Rattle.evc.specs.Planes.{edge};
+ghost use lib.ListN.{length};
 ghost use Rattle.plane_tests.specs.Blocks.{cell};
-ghost use Rattle.block_rows.specs.Totals.{Totalled, BlocksTotalled, apart};
-ghost use Rattle.block_rows.specs.Edges.{AtEdges, edgeCell};
+ghost use Rattle.block_rows.specs.Totals.{RowsTotalled, BlocksTotalled, apart, valueAt};
+ghost use Rattle.block_rows.specs.Edges.{AtEdges, edgeCell, edgeRow};
 use crate::rows::sad_row;
 use block_rows::Totals;
 
 // A row, and one that is read at the columns from x on.
 fn edge_row(a: &[u16], row: &[u16], x: i16, w: usize) -> Totals
     requires { ⌜ (length (now a) ≡ w) × (w ≤ 64) ⌝ }
-    ensures { λ r. ⌜ Totalled w (λ i. apart (getD (now (a .entry)) i 0) (getD (now (row .entry)) (edge (x +ℤ pos i)) 0)) (λ i. bitOr (getD (now (a .entry)) i 0) (getD (now (row .entry)) (edge (x +ℤ pos i)) 0)) (r .sum) (r .any) ⌝ }
+    ensures { λ r. ⌜ RowsTotalled (64 * 65535) apart bitOr w (valueAt 0 (now (a .entry))) (edgeRow (now (row .entry)) x) (r .sum) (r .any) ⌝ }
 {
     let mut line = [0u16; 64];
     block_rows::edge_row(row, x, &mut line[..w]);
@@ -35,7 +33,7 @@ fn edge_rows(
     h: usize,
 ) -> Totals
     requires { ⌜ AtEdges w h (length (now org)) at stride (length (now reference)) «ref_stride» «mv_x» «mv_y» ⌝ }
-    ensures { λ r. ⌜ BlocksTotalled apart w h (cell 0 (now (org .entry)) at stride) (edgeCell (now (reference .entry)) «ref_stride» «mv_x» «mv_y») (r .sum) (r .any) ⌝ }
+    ensures { λ r. ⌜ BlocksTotalled (64 * (64 * 65535)) apart bitOr w h (cell 0 (now (org .entry)) at stride) (edgeCell (now (reference .entry)) «ref_stride» «mv_x» «mv_y») (r .sum) (r .any) ⌝ }
 {
     let mut sum: u64 = 0;
     let mut any: u16 = 0;
@@ -64,7 +62,7 @@ pub(crate) fn total(
     h: usize,
 ) -> Totals
     requires { ⌜ AtEdges w h (length (now org)) at stride (length (now reference)) «ref_stride» «mv_x» «mv_y» ⌝ }
-    ensures { λ r. ⌜ BlocksTotalled apart w h (cell 0 (now (org .entry)) at stride) (edgeCell (now (reference .entry)) «ref_stride» «mv_x» «mv_y») (r .sum) (r .any) ⌝ }
+    ensures { λ r. ⌜ BlocksTotalled (64 * (64 * 65535)) apart bitOr w h (cell 0 (now (org .entry)) at stride) (edgeCell (now (reference .entry)) «ref_stride» «mv_x» «mv_y») (r .sum) (r .any) ⌝ }
 {
     if block_rows::negative(mv_x, mv_y) {
         return edge_rows(org, at, stride, reference, ref_stride, mv_x, mv_y, w, h);

@@ -3,7 +3,9 @@
 // Differs from the Rust in: samples are tested by the OR of all that are read, compared once by the caller, so that these loops have no way out
 // and become vector code.
 ghost use mathlib.Core.Path.{_≡_};
-ghost use Rattle.block_rows.specs.Totals.{RowsTotalled, TwoRows, apart};
+ghost use Prim.Native.Nat.{_*_};
+ghost use lib.Bits.{bitOr};
+ghost use Rattle.block_rows.specs.Totals.{RowsTotalled, TwoRows, apart, valueAt};
 use block_rows::Totals;
 
 // How far two samples are apart.
@@ -35,7 +37,7 @@ fn gap(p: u16, q: u16, w: usize) -> u32
 // The absolute differences of two rows, added.
 pub(crate) fn sad_row(a: &[u16], b: &[u16], w: usize) -> Totals
     requires { ⌜ TwoRows w (now a) (now b) ⌝ }
-    ensures { λ r. ⌜ RowsTotalled apart w (now (a .entry)) (now (b .entry)) (r .sum) (r .any) ⌝ }
+    ensures { λ r. ⌜ RowsTotalled (64 * 65535) apart bitOr w (valueAt 0 (now (a .entry))) (valueAt 0 (now (b .entry))) (r .sum) (r .any) ⌝ }
 {
     let mut sum: u32 = 0;
     let mut any: u16 = 0;

@@ -5,14 +5,12 @@ use mathlib.Core.List.{List, [], _∷_}
 use Prim.Native.Nat.{ℕ, _+_, _*_, _-_, _/_, _^_, _≤_}
 use native.Mathlib.Nat.{le-trans}
 use native.Mathlib.Omega.{arith}
-use lib.Bits.{bitOr}
 use lib.Dec.{leb}
 use lib.IntN.{ℤ, pos}
 use lib.ListN.{getD}
 use lib.Pow.{pow-mono}
 use Rattle.integers.specs.Sum.{ofN+, sumN}
-use Rattle.integers.specs.Or.{ofOr, orN}
-use Rattle.integers.proofs.Sum.{sum-ext}
+use Rattle.integers.specs.Or.{ofOr}
 use Rattle.evc.specs.declared.Refusal.the-variants.{Sample}
 use Rattle.evc.specs.Tests.{_when_, first, reply}
 use Rattle.evc.specs.Planes.{Block, tooLow, biPacked}
@@ -24,8 +22,10 @@ use Rattle.sad_bi.specs.Marks.{lowMark}
 use Rattle.sad_answer.proofs.Answered.{answered}
 use Rattle.sad_bi.proofs.LowMark.{low-marked}
 use Rattle.plane_tests.proofs.Replies.{Alike}
+use Rattle.block_rows.specs.Totals.{BlocksTotalled}
+use Rattle.block_rows.proofs.Cells.{SameBlock, same-block, sums-alike}
 use Rattle.block_rows.proofs.Marked.{samples, marked-value}
-use Rattle.sad_bi.specs.Totals.{BiBlocksTotalled, BiCounted, apartBi}
+use Rattle.sad_bi.specs.Totals.{BiCounted, apartBi, markBi}
 
 -- a block of values, by what row j, column i reads
 abbrev pub values : (ℕ → ℕ → ℤ) → Block
@@ -36,21 +36,15 @@ unfolding cell
 bi-alike l w h = record { reads = λ j i p q. let e : 0 + j * w + i ≡ j * w + i = omega arith in ap (λ (k : ℕ). getD l k (pos 0)) e; bad = λ v. refl }
 
 -- where nothing was cut
-pub counted-all : (w h : ℕ) (A : ℕ → ℕ → ℤ) (B : ℕ → ℕ → ℕ) {sum any : ℕ} → BiBlocksTotalled w h A B sum any → h ≤ 64 → sum ≤ h * 6291392 → BiCounted w h A B sum any
-counted-all w h A B t p q = record { total = λ k. t .total; marks = t .marks; most = omega arith }
+pub counted-all :
+    (w h : ℕ) (A : ℕ → ℕ → ℤ) (B : ℕ → ℕ → ℕ) {sum any : ℕ} → BlocksTotalled (64 * (64 * 98303)) apartBi markBi w h A B sum any → BiCounted w h A B sum any
+counted-all w h A B t = record { total = λ k. t .total; marks = t .marks; most = omega (arith, t .most) }
 
 -- samples that are read alike
-pub counted-ext : (w h : ℕ) (A : ℕ → ℕ → ℤ) (B C : ℕ → ℕ → ℕ) {sum any : ℕ} → ((j i : ℕ) → B j i ≡ C j i) → BiCounted w h A B sum any → BiCounted w h A C sum any
-counted-ext w h A B C e t = record {
-  total =
-      λ k.
-      t .total k
-      ∙ sum-ext ofN+ h (λ j. sumN w (λ i. apartBi (A j i) (B j i))) (λ j. sumN w (λ i. apartBi (A j i) (C j i)))
-      (λ j m. sum-ext ofN+ w (λ i. apartBi (A j i) (B j i)) (λ i. apartBi (A j i) (C j i)) (λ i n. ap (apartBi (A j i)) (e j i)));
-  marks =
-      t .marks
-      ∙ sum-ext ofOr h (λ j. orN w (λ i. bitOr (lowMark (A j i)) (B j i))) (λ j. orN w (λ i. bitOr (lowMark (A j i)) (C j i)))
-      (λ j m. sum-ext ofOr w (λ i. bitOr (lowMark (A j i)) (B j i)) (λ i. bitOr (lowMark (A j i)) (C j i)) (λ i n. ap (bitOr (lowMark (A j i))) (e j i)));
+pub counted-ext : {w h sum any : ℕ} (A : ℕ → ℕ → ℤ) {B C : ℕ → ℕ → ℕ} → SameBlock B C → BiCounted w h A B sum any → BiCounted w h A C sum any
+counted-ext {w} {h} A e t = record {
+  total = λ k. t .total k ∙ sums-alike ofN+ apartBi (same-block A) e w h;
+  marks = t .marks ∙ sums-alike ofOr markBi (same-block A) e w h;
   most = t .most;
 }
 

@@ -83,13 +83,14 @@ module _ (n : ℕ) (f M B : ℕ → ℕ) where
   -- the remainders' sum is what the pairs' has more, where 16 bits hold it
   pub paired-end :
       {high both any mark i : ℕ} → Paired high both any mark i → n ≤ i → n ≤ 256 → (last : ℕ) → last ≤ 65535 → (last + high * 256 % 65536) % 65536 ≡ both →
-      Totalled (n + n) f (λ k. bitOr (M k) (B k)) (high * 256 + last) (bitOr any mark)
+      Totalled 16842495 (n + n) f (λ k. bitOr (M k) (B k)) (high * 256 + last) (bitOr any mark)
   paired-end {high} {both} {any} {mark} {i} r h l last b w = record {
     total = ap₂ (λ (x y : ℕ). x * 256 + y) top rest ∙ sum-parts n pair ∙ sum-two ofN+ n f;
     marks =
         summed-end (r .marks) h
         ∙ sum-ext ofOr n marksOf (λ k. bitOr (bitOr (M k) (B k)) (bitOr (M (n + k)) (B (n + k)))) (λ k p. each (B k) (B (n + k)) (M k) (M (n + k)))
         ∙ sum-two ofOr n (λ k. bitOr (M k) (B k));
+    most = let k = r .highs .most in let f = r .few in omega arith;
   }
     where
       each : (a b c d : ℕ) → bitOr (bitOr a b) (bitOr d c) ≡ bitOr (bitOr c a) (bitOr d b)

@@ -6,8 +6,8 @@ ghost use Prim.Native.Nat.{_*_, _≤_};
 ghost use lib.IntN.{pos};
 ghost use lib.ListN.{length};
 ghost use Rattle.plane_tests.specs.Blocks.{TwoBlocks, cell};
-ghost use Rattle.block_rows.specs.Totals.{TwoRows};
-ghost use Rattle.sad_bi.specs.Totals.{BiRowsTotalled, BiBlocksTotalled, BiCounted, apartBi};
+ghost use Rattle.block_rows.specs.Totals.{TwoRows, RowsTotalled, BlocksTotalled, valueAt};
+ghost use Rattle.sad_bi.specs.Totals.{BiCounted, apartBi, markBi};
 use block_rows::Totals;
 
 // How far a value and a sample are apart: at most 32768 + 65535.
@@ -26,8 +26,7 @@ fn distance(v: i16, q: u16) -> u32
 // The absolute differences of two rows, added.
 pub(crate) fn sad_row(a: &[i16], b: &[u16], w: usize) -> Totals
     requires { ⌜ TwoRows w (now a) (now b) ⌝ }
-    ensures { λ r. ⌜ BiRowsTotalled w (now (a .entry)) (now (b .entry)) (r .sum) (r .any) ⌝ }
-    ensures { λ r. ⌜ r .sum ≤ w * 98303 ⌝ }
+    ensures { λ r. ⌜ RowsTotalled (64 * 98303) apartBi markBi w (valueAt (pos 0) (now (a .entry))) (valueAt 0 (now (b .entry))) (r .sum) (r .any) ⌝ }
 {
     let mut sum: u32 = 0;
     let mut any: u16 = 0;
@@ -44,8 +43,7 @@ pub(crate) fn sad_row(a: &[i16], b: &[u16], w: usize) -> Totals
 // The same of two blocks, of which the first is packed.
 fn sad_rows(a: &[i16], b: &[u16], b_at: usize, b_stride: usize, w: usize, h: usize) -> Totals
     requires { ⌜ TwoBlocks w h (length (now a)) 0 w (length (now b)) «b_at» «b_stride» ⌝ }
-    ensures { λ r. ⌜ BiBlocksTotalled w h (cell (pos 0) (now (a .entry)) 0 w) (cell 0 (now (b .entry)) «b_at» «b_stride») (r .sum) (r .any) ⌝ }
-    ensures { λ r. ⌜ r .sum ≤ h * 6291392 ⌝ }
+    ensures { λ r. ⌜ BlocksTotalled (64 * (64 * 98303)) apartBi markBi w h (cell (pos 0) (now (a .entry)) 0 w) (cell 0 (now (b .entry)) «b_at» «b_stride») (r .sum) (r .any) ⌝ }
 {
     let mut sum: u64 = 0;
     let mut any: u16 = 0;
@@ -64,8 +62,7 @@ fn sad_rows(a: &[i16], b: &[u16], b_at: usize, b_stride: usize, w: usize, h: usi
 // The same for a width of 4, with the common height as a literal too: so few samples are added without a loop.
 fn fours(a: &[i16], b: &[u16], b_at: usize, b_stride: usize, h: usize) -> Totals
     requires { ⌜ TwoBlocks 4 h (length (now a)) 0 4 (length (now b)) «b_at» «b_stride» ⌝ }
-    ensures { λ r. ⌜ BiBlocksTotalled 4 h (cell (pos 0) (now (a .entry)) 0 4) (cell 0 (now (b .entry)) «b_at» «b_stride») (r .sum) (r .any) ⌝ }
-    ensures { λ r. ⌜ r .sum ≤ h * 6291392 ⌝ }
+    ensures { λ r. ⌜ BlocksTotalled (64 * (64 * 98303)) apartBi markBi 4 h (cell (pos 0) (now (a .entry)) 0 4) (cell 0 (now (b .entry)) «b_at» «b_stride») (r .sum) (r .any) ⌝ }
 {
     if h == 4 {
         return sad_rows(a, b, b_at, b_stride, 4, 4);
@@ -76,8 +73,7 @@ fn fours(a: &[i16], b: &[u16], b_at: usize, b_stride: usize, h: usize) -> Totals
 // The same, with the common widths as literals.
 fn sad_block(a: &[i16], b: &[u16], b_at: usize, b_stride: usize, w: usize, h: usize) -> Totals
     requires { ⌜ TwoBlocks w h (length (now a)) 0 w (length (now b)) «b_at» «b_stride» ⌝ }
-    ensures { λ r. ⌜ BiBlocksTotalled w h (cell (pos 0) (now (a .entry)) 0 w) (cell 0 (now (b .entry)) «b_at» «b_stride») (r .sum) (r .any) ⌝ }
-    ensures { λ r. ⌜ r .sum ≤ h * 6291392 ⌝ }
+    ensures { λ r. ⌜ BlocksTotalled (64 * (64 * 98303)) apartBi markBi w h (cell (pos 0) (now (a .entry)) 0 w) (cell 0 (now (b .entry)) «b_at» «b_stride») (r .sum) (r .any) ⌝ }
 {
     match w {
         64 => sad_rows(a, b, b_at, b_stride, 64, h),

@@ -2,23 +2,19 @@
 // Differs from the Rust in: where neither position is negative, the block is compared where it stands.
 ghost use mathlib.Core.Path.{_≡_};
 ghost use Prim.Native.Nat.{_*_, _≤_};
-ghost use lib.Bits.{bitOr};
-ghost use lib.IntN.{pos, _+ℤ_};
-ghost use lib.ListN.{length, getD};
-ghost use Rattle.evc.specs.Planes.{edge};
+ghost use lib.IntN.{pos};
+ghost use lib.ListN.{length};
 ghost use Rattle.plane_tests.specs.Blocks.{cell};
-ghost use Rattle.sad_bi.specs.Marks.{lowMark};
-ghost use Rattle.block_rows.specs.Totals.{Totalled};
-ghost use Rattle.block_rows.specs.Edges.{AtEdges, edgeCell};
-ghost use Rattle.sad_bi.specs.Totals.{BiBlocksTotalled, BiCounted, apartBi};
+ghost use Rattle.block_rows.specs.Totals.{RowsTotalled, BlocksTotalled, valueAt};
+ghost use Rattle.block_rows.specs.Edges.{AtEdges, edgeCell, edgeRow};
+ghost use Rattle.sad_bi.specs.Totals.{BiCounted, apartBi, markBi};
 use crate::blocks::sad_row;
 use block_rows::Totals;
 
 // A row of values, and one that is read at the columns from x on.
 fn edge_row(a: &[i16], row: &[u16], x: i16, w: usize) -> Totals
     requires { ⌜ (length (now a) ≡ w) × (w ≤ 64) ⌝ }
-    ensures { λ r. ⌜ Totalled w (λ i. apartBi (getD (now (a .entry)) i (pos 0)) (getD (now (row .entry)) (edge (x +ℤ pos i)) 0)) (λ i. bitOr (lowMark (getD (now (a .entry)) i (pos 0))) (getD (now (row .entry)) (edge (x +ℤ pos i)) 0)) (r .sum) (r .any) ⌝ }
-    ensures { λ r. ⌜ r .sum ≤ w * 98303 ⌝ }
+    ensures { λ r. ⌜ RowsTotalled (64 * 98303) apartBi markBi w (valueAt (pos 0) (now (a .entry))) (edgeRow (now (row .entry)) x) (r .sum) (r .any) ⌝ }
 {
     let mut line = [0u16; 64];
     block_rows::edge_row(row, x, &mut line[..w]);
@@ -36,8 +32,7 @@ fn edge_rows(
     h: usize,
 ) -> Totals
     requires { ⌜ AtEdges w h (length (now bi)) 0 w (length (now reference)) «ref_stride» «mv_x» «mv_y» ⌝ }
-    ensures { λ r. ⌜ BiBlocksTotalled w h (cell (pos 0) (now (bi .entry)) 0 w) (edgeCell (now (reference .entry)) «ref_stride» «mv_x» «mv_y») (r .sum) (r .any) ⌝ }
-    ensures { λ r. ⌜ r .sum ≤ h * 6291392 ⌝ }
+    ensures { λ r. ⌜ BlocksTotalled (64 * (64 * 98303)) apartBi markBi w h (cell (pos 0) (now (bi .entry)) 0 w) (edgeCell (now (reference .entry)) «ref_stride» «mv_x» «mv_y») (r .sum) (r .any) ⌝ }
 {
     let mut sum: u64 = 0;
     let mut any: u16 = 0;

@@ -2,11 +2,15 @@
 // Differs from the Rust in: a difference is formed in 16 bits of values that were cut to what 16 bits can subtract; whether anything was cut, the
 // marks tell.
 ghost use mathlib.Core.Path.{_≡_};
-ghost use Prim.Native.Nat.{_*_, _≤_};
+ghost use Prim.Native.Nat.{_+_, _*_, _≤_};
+ghost use lib.IntN.{pos};
 ghost use lib.ListN.{length};
 ghost use lib.Bits.{bitOr};
 ghost use Rattle.sad_bi.specs.Marks.{lowMark};
-ghost use Rattle.sad_bi.specs.Near.{raise, nearBi, TwoRuns, RunsTotalled, InRuns, AllRunsTotalled};
+ghost use Rattle.plane_tests.specs.Blocks.{cell};
+ghost use Rattle.block_rows.specs.Totals.{RowsTotalled, BlocksTotalled, valueAt};
+ghost use Rattle.sad_bi.specs.Totals.{markBi};
+ghost use Rattle.sad_bi.specs.Near.{raise, nearBi, TwoRuns, InRuns};
 use block_rows::Totals;
 
 // A value that is too low counts as -16,384, so that 16 bits hold its difference from a sample of 14 bits.
@@ -36,8 +40,7 @@ fn near(v: i16, q: u16) -> u16
 // than the high bytes' is that of the low bytes, which 16 bits hold.
 fn pairs(a: &[i16], b: &[u16], n: usize) -> Totals
     requires { ⌜ TwoRuns n (now a) (now b) ⌝ }
-    ensures { λ r. ⌜ RunsTotalled n (now (a .entry)) (now (b .entry)) (r .sum) (r .any) ⌝ }
-    ensures { λ r. ⌜ r .sum ≤ 16842495 ⌝ }
+    ensures { λ r. ⌜ RowsTotalled 16842495 nearBi markBi (n + n) (valueAt (pos 0) (now (a .entry))) (valueAt 0 (now (b .entry))) (r .sum) (r .any) ⌝ }
 {
     let mut high: u16 = 0;
     let mut both: u16 = 0;
@@ -63,8 +66,7 @@ fn pairs(a: &[i16], b: &[u16], n: usize) -> Totals
 // The same of all runs, one after another.
 pub(crate) fn runs(a: &[i16], b: &[u16], b_at: usize, n: usize, count: usize) -> Totals
     requires { ⌜ InRuns n count (length (now a)) (length (now b)) «b_at» ⌝ }
-    ensures { λ r. ⌜ AllRunsTotalled n count (now (a .entry)) (now (b .entry)) «b_at» (r .sum) (r .any) ⌝ }
-    ensures { λ r. ⌜ r .sum ≤ count * 16842495 ⌝ }
+    ensures { λ r. ⌜ BlocksTotalled (64 * 16842495) nearBi markBi (n + n) count (cell (pos 0) (now (a .entry)) 0 (n + n)) (cell 0 (now (b .entry)) «b_at» (n + n)) (r .sum) (r .any) ⌝ }
 {
     let w = n + n;
     let mut sum: u64 = 0;

@@ -1,8 +1,7 @@
 -- What SSD adds up to, of blocks that are read alike; and how a call of SSD ends once its blocks are compared. Assumes nothing.
 use mathlib.Core.Path.{_≡_, refl, ap, _∙_}
 use mathlib.Core.List.{[], _∷_}
-use Prim.Native.Nat.{ℕ, _*_, _-_, _/_, _^_, _≤_, _<_}
-use native.Mathlib.Omega.{arith}
+use Prim.Native.Nat.{ℕ, _*_, _-_, _/_, _^_, _<_}
 use lib.Bits.{bitOr}
 use lib.Dec.{leb}
 use lib.IntN.{ℤ, pos, natAbs}
@@ -16,10 +15,9 @@ use Rattle.evc.proofs.Marks.{below-all}
 use Rattle.plane_tests.specs.Blocks.{rest}
 use Rattle.plane_tests.proofs.Replies.{Alike, dif-alike}
 use Rattle.block_rows.specs.Totals.{BlocksTotalled, apart}
-use Rattle.block_rows.proofs.Cells.{compared-most}
 use Rattle.block_rows.proofs.Marked.{samples, marked-value}
 use Rattle.ssd.specs.Squares.{squared, squaredLow}
-use Rattle.ssd.proofs.Squares.{squared-low-le, squared-low-is}
+use Rattle.ssd.proofs.Squares.{squared-low-is}
 
 module _ {w h : ℕ} {a a′ b b′ : Block} (p : Alike w h a a′) (q : Alike w h b b′) where
   pub ssd-alike : (shift : ℕ) → ssdTotal shift w h (difference a b) ≡ ssdTotal shift w h (difference a′ b′)
@@ -30,12 +28,7 @@ module _ {w h : ℕ} {a a′ b b′ : Block} (p : Alike w h a a′) (q : Alike w
       (λ j n. sum-ext ofN+ w (λ i. f (difference a b j i)) (λ i. f (difference a′ b′ j i)) (λ i m. ap f (dif-alike p q j i n m)))
 
 -- A and B give what row j, column i of each block reads
-module _ (w h depth : ℕ) (A B : ℕ → ℕ → ℕ) {sum any : ℕ} (t : BlocksTotalled (squaredLow depth) w h A B sum any) where
-  pub ssd-small : 8 ≤ depth → w ≤ 64 → h ≤ 64 → sum < 2 ^ 63
-  ssd-small d p q =
-      let m = compared-most w h 65535 (λ j i. squaredLow depth (A j i) (B j i)) (λ j i. bitOr (A j i) (B j i)) t p q (λ j i. squared-low-le depth (A j i) (B j i) d) in
-      omega arith
-
+module _ (w h depth : ℕ) (A B : ℕ → ℕ → ℕ) {sum any : ℕ} (t : BlocksTotalled (64 * (64 * 65535)) (squaredLow depth) bitOr w h A B sum any) where
   -- where no sample reaches the depth's limit, the sum is that of the definition
   whole : any < 2 ^ depth → sum ≡ sumN h (λ j. sumN w (λ i. squared (2 * (depth - 8)) (A j i) (B j i)))
   whole k =

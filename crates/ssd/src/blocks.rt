@@ -1,7 +1,8 @@
 // Two blocks, row by row. A block is a start and a stride in its buffer, so a packed block is one whose stride is its width. Document 01,
 // "Distortion".
 // Differs from the Rust in: the common widths are literals, for which compilers write straight vector code.
-ghost use Prim.Native.Nat.{_≤_};
+ghost use Prim.Native.Nat.{_*_, _≤_};
+ghost use lib.Bits.{bitOr};
 ghost use lib.ListN.{length};
 ghost use Rattle.plane_tests.specs.Blocks.{TwoBlocks, cell};
 ghost use Rattle.block_rows.specs.Totals.{BlocksTotalled};
@@ -22,7 +23,7 @@ fn ssd_rows(
 ) -> Totals
     requires { ⌜ TwoBlocks w h (length (now a)) «a_at» «a_stride» (length (now b)) «b_at» «b_stride» ⌝ }
     requires { ⌜ (8 ≤ depth) × (depth ≤ 14) ⌝ }
-    ensures { λ r. ⌜ BlocksTotalled (squaredLow depth) w h (cell 0 (now (a .entry)) «a_at» «a_stride») (cell 0 (now (b .entry)) «b_at» «b_stride») (r .sum) (r .any) ⌝ }
+    ensures { λ r. ⌜ BlocksTotalled (64 * (64 * 65535)) (squaredLow depth) bitOr w h (cell 0 (now (a .entry)) «a_at» «a_stride») (cell 0 (now (b .entry)) «b_at» «b_stride») (r .sum) (r .any) ⌝ }
 {
     let mut sum: u64 = 0;
     let mut any: u16 = 0;
@@ -52,7 +53,7 @@ pub(crate) fn ssd_block(
 ) -> Totals
     requires { ⌜ TwoBlocks w h (length (now a)) «a_at» «a_stride» (length (now b)) «b_at» «b_stride» ⌝ }
     requires { ⌜ (8 ≤ depth) × (depth ≤ 14) ⌝ }
-    ensures { λ r. ⌜ BlocksTotalled (squaredLow depth) w h (cell 0 (now (a .entry)) «a_at» «a_stride») (cell 0 (now (b .entry)) «b_at» «b_stride») (r .sum) (r .any) ⌝ }
+    ensures { λ r. ⌜ BlocksTotalled (64 * (64 * 65535)) (squaredLow depth) bitOr w h (cell 0 (now (a .entry)) «a_at» «a_stride») (cell 0 (now (b .entry)) «b_at» «b_stride») (r .sum) (r .any) ⌝ }
 {
     if w == 4 {
         if h == 4 {

@@ -1,12 +1,10 @@
 // Two blocks at positions that may be negative. Document 01, "Distortion".
 // Differs from the Rust in: where neither position is negative, the blocks are compared where they stand.
-ghost use Prim.Native.Nat.{_≤_};
+ghost use Prim.Native.Nat.{_*_, _≤_};
 ghost use lib.Bits.{bitOr};
-ghost use lib.IntN.{pos, _+ℤ_};
-ghost use lib.ListN.{length, getD};
-ghost use Rattle.evc.specs.Planes.{edge};
-ghost use Rattle.block_rows.specs.Totals.{Totalled, BlocksTotalled};
-ghost use Rattle.block_rows.specs.Edges.{EdgesIn, edgeCell};
+ghost use lib.ListN.{length};
+ghost use Rattle.block_rows.specs.Totals.{RowsTotalled, BlocksTotalled};
+ghost use Rattle.block_rows.specs.Edges.{EdgesIn, edgeCell, edgeRow};
 ghost use Rattle.ssd.specs.Squares.{squaredLow};
 use crate::rows::ssd_row;
 use block_rows::Totals;
@@ -15,7 +13,7 @@ use block_rows::Totals;
 fn edge_row(a: &[u16], b: &[u16], x: i16, w: usize, depth: u8) -> Totals
     requires { ⌜ w ≤ 64 ⌝ }
     requires { ⌜ (8 ≤ depth) × (depth ≤ 14) ⌝ }
-    ensures { λ r. ⌜ Totalled w (λ i. squaredLow depth (getD (now (a .entry)) (edge (x +ℤ pos i)) 0) (getD (now (b .entry)) (edge (x +ℤ pos i)) 0)) (λ i. bitOr (getD (now (a .entry)) (edge (x +ℤ pos i)) 0) (getD (now (b .entry)) (edge (x +ℤ pos i)) 0)) (r .sum) (r .any) ⌝ }
+    ensures { λ r. ⌜ RowsTotalled (64 * 65535) (squaredLow depth) bitOr w (edgeRow (now (a .entry)) x) (edgeRow (now (b .entry)) x) (r .sum) (r .any) ⌝ }
 {
     let mut one = [0u16; 64];
     let mut two = [0u16; 64];
@@ -39,7 +37,7 @@ fn edge_rows(
     requires { ⌜ EdgesIn (length (now one)) stride1 x y w h ⌝ }
     requires { ⌜ EdgesIn (length (now two)) stride2 x y w h ⌝ }
     requires { ⌜ (8 ≤ depth) × (depth ≤ 14) ⌝ }
-    ensures { λ r. ⌜ BlocksTotalled (squaredLow depth) w h (edgeCell (now (one .entry)) stride1 x y) (edgeCell (now (two .entry)) stride2 x y) (r .sum) (r .any) ⌝ }
+    ensures { λ r. ⌜ BlocksTotalled (64 * (64 * 65535)) (squaredLow depth) bitOr w h (edgeCell (now (one .entry)) stride1 x y) (edgeCell (now (two .entry)) stride2 x y) (r .sum) (r .any) ⌝ }
 {
     let mut sum: u64 = 0;
     let mut any: u16 = 0;
@@ -69,7 +67,7 @@ pub(crate) fn total(
     requires { ⌜ EdgesIn (length (now one)) stride1 x y w h ⌝ }
     requires { ⌜ EdgesIn (length (now two)) stride2 x y w h ⌝ }
     requires { ⌜ (8 ≤ depth) × (depth ≤ 14) ⌝ }
-    ensures { λ r. ⌜ BlocksTotalled (squaredLow depth) w h (edgeCell (now (one .entry)) stride1 x y) (edgeCell (now (two .entry)) stride2 x y) (r .sum) (r .any) ⌝ }
+    ensures { λ r. ⌜ BlocksTotalled (64 * (64 * 65535)) (squaredLow depth) bitOr w h (edgeCell (now (one .entry)) stride1 x y) (edgeCell (now (two .entry)) stride2 x y) (r .sum) (r .any) ⌝ }
 {
     if block_rows::negative(x, y) {
         return edge_rows(one, stride1, two, stride2, x, y, w, h, depth);

@@ -4,7 +4,8 @@
 // becomes vector code. They are first cut to the depth's bits, which changes only what is refused.
 ghost use mathlib.Core.Path.{_≡_};
 ghost use Prim.Native.Nat.{_*_, _%_, _<_, _≤_};
-ghost use Rattle.block_rows.specs.Totals.{RowsTotalled, TwoRows, apart};
+ghost use lib.Bits.{bitOr};
+ghost use Rattle.block_rows.specs.Totals.{RowsTotalled, TwoRows, apart, valueAt};
 ghost use Rattle.ssd.specs.Squares.{squared, squaredLow};
 use block_rows::Totals;
 
@@ -41,7 +42,7 @@ fn share(p: u16, q: u16, shift: u8, w: usize) -> u32
 pub(crate) fn ssd_row(a: &[u16], b: &[u16], w: usize, depth: u8) -> Totals
     requires { ⌜ TwoRows w (now a) (now b) ⌝ }
     requires { ⌜ (8 ≤ depth) × (depth ≤ 14) ⌝ }
-    ensures { λ r. ⌜ RowsTotalled (squaredLow depth) w (now (a .entry)) (now (b .entry)) (r .sum) (r .any) ⌝ }
+    ensures { λ r. ⌜ RowsTotalled (64 * 65535) (squaredLow depth) bitOr w (valueAt 0 (now (a .entry))) (valueAt 0 (now (b .entry))) (r .sum) (r .any) ⌝ }
 {
     let mask = (1u16 << depth) - 1;
     let shift = square_shift(depth);

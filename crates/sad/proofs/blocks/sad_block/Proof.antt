@@ -2,7 +2,7 @@
 use mathlib.Core.Path.{subst₂}
 use lib.ListN.{length}
 use Rattle.plane_tests.specs.Blocks.{TwoBlocks}
-use Rattle.block_rows.proofs.Cells.{compared-at, compared-four}
+use Rattle.block_rows.proofs.Cells.{blocks-at, blocks-four}
 use borrow.Author.Needs.{needs}
 use Rattle.sad.proofs.blocks.sad_block.Statement.{statement}
 use Rattle.sad.proofs.blocks.sad_block.Tie as tie
@@ -14,7 +14,7 @@ sad-rows-requires c κs =
     subst₂ (λ w h. TwoBlocks w h (length (a .a .now)) (a .a-at) (a .a-stride) (length (a .b .now)) (a .b-at) (a .b-stride)) (c .before .if1 .taken) (c .if2 .taken) (s .pre)
 
 returns : tie.Need-returns
-returns c = compared-four _ _ _ _ (c .before .before .if1 .taken) (c .before .if2 .taken) (c .sad-rows .ensures)
+returns c = blocks-four _ _ _ _ (c .before .before .if1 .taken) (c .before .if2 .taken) (c .sad-rows .ensures)
 
 sad-rows-requires-2 : tie.Need-sad-rows-requires-2
 sad-rows-requires-2 c κs = search needs
@@ -38,22 +38,22 @@ sad-rows-requires-8 : tie.Need-sad-rows-requires-8
 sad-rows-requires-8 c κs = search needs
 
 returns-2 : tie.Need-returns-2
-returns-2 c = compared-at _ 64 _ _ _ (c .before .match .keys1) (c .sad-rows2 .ensures)
+returns-2 c = blocks-at _ _ _ 64 (c .before .match .keys1) (c .sad-rows2 .ensures)
 
 returns-3 : tie.Need-returns-3
-returns-3 c = compared-at _ 32 _ _ _ (c .before .match .keys2) (c .sad-rows3 .ensures)
+returns-3 c = blocks-at _ _ _ 32 (c .before .match .keys2) (c .sad-rows3 .ensures)
 
 returns-4 : tie.Need-returns-4
-returns-4 c = compared-at _ 16 _ _ _ (c .before .match .keys3) (c .sad-rows4 .ensures)
+returns-4 c = blocks-at _ _ _ 16 (c .before .match .keys3) (c .sad-rows4 .ensures)
 
 returns-5 : tie.Need-returns-5
-returns-5 c = compared-at _ 8 _ _ _ (c .before .match .keys4) (c .sad-rows5 .ensures)
+returns-5 c = blocks-at _ _ _ 8 (c .before .match .keys4) (c .sad-rows5 .ensures)
 
 returns-6 : tie.Need-returns-6
-returns-6 c = compared-at _ 4 _ _ _ (c .before .match .keys5) (c .sad-rows6 .ensures)
+returns-6 c = blocks-at _ _ _ 4 (c .before .match .keys5) (c .sad-rows6 .ensures)
 
 returns-7 : tie.Need-returns-7
-returns-7 c = compared-at _ 2 _ _ _ (c .before .match .keys6) (c .sad-rows7 .ensures)
+returns-7 c = blocks-at _ _ _ 2 (c .before .match .keys6) (c .sad-rows7 .ensures)
 
 returns-8 : tie.Need-returns-8
 returns-8 c = search needs

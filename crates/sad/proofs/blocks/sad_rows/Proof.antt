@@ -1,5 +1,6 @@
 -- `sad::blocks::sad_rows` meets its contract. Assumes nothing.
-use Prim.Native.Nat.{ℕ, _+_, _-_, _*_, _≤_}
+use mathlib.Core.Path.{refl}
+use Prim.Native.Nat.{_+_, _-_, _*_, _≤_}
 use native.Mathlib.Omega.{arith}
 use lib.Bits.{bitOr}
 use lib.ListN.{length}
@@ -7,16 +8,15 @@ use Rattle.integers.specs.Sum.{sumN}
 use Rattle.integers.specs.Or.{orN}
 use Rattle.plane_tests.specs.Blocks.{cell}
 use Rattle.plane_tests.proofs.Planes.{in-one, in-two}
-use Rattle.block_rows.specs.Totals.{Totalled, apart}
-use Rattle.block_rows.proofs.Samples.{apart-le}
-use Rattle.block_rows.proofs.Running.{Running, running-start, running-step, running-end, running-next}
-use Rattle.block_rows.proofs.Cells.{row-part, two-rows, totalled-rows, row-most}
+use Rattle.block_rows.specs.Totals.{apart}
+use Rattle.block_rows.proofs.Running.{Running, running-start, running-row, running-end, running-next}
+use Rattle.block_rows.proofs.Cells.{two-parts, part-same, rows-alike}
 use Rattle.sad.proofs.blocks.sad_rows.Statement.{statement}
 use Rattle.sad.proofs.blocks.sad_rows.Tie as tie
 
 abbrev Inv-loop : tie.InvT-loop
 Inv-loop a a-at a-stride b b-at b-stride w h sum₀ any₀ j₀ sum any j =
-    Running h (λ j. sumN w (λ i. apart (cell 0 a a-at a-stride j i) (cell 0 b b-at b-stride j i)))
+    Running (64 * 65535) h (λ j. sumN w (λ i. apart (cell 0 a a-at a-stride j i) (cell 0 b b-at b-stride j i)))
     (λ j. orN w (λ i. bitOr (cell 0 a a-at a-stride j i) (cell 0 b b-at b-stride j i))) sum any j
 
 abbrev μ-loop : tie.MeasureT-loop
@@ -75,44 +75,12 @@ part-sad-row-end-2 : tie.Need-part-sad-row-end-2 Inv-loop μ-loop
 part-sad-row-end-2 c = two (c .before)
 
 sad-row-requires : tie.Need-sad-row-requires Inv-loop μ-loop
-sad-row-requires c κs =
-    let s = c .before .before .before .before .before .before in
-    let a = s .args in
-    two-rows (a .w) (a .h) (a .a .now) (a .a-at) (a .a-stride) (a .b .now) (a .b-at) (a .b-stride) (s .pre) (c .before .before .before .loop .j) (omega arith) _ _
-    (row-part (a .a .now) (a .a-at) (a .a-stride) (c .before .before .before .loop .j) (a .w)) (row-part (a .b .now) (a .b-at) (a .b-stride) (c .before .before .before .loop .j) (a .w))
-
--- what the rows told, said of the blocks
-told :
-    (c : tie.After-sad-row Inv-loop μ-loop) →
-    let a = c .before .before .before .before .before .before .before .args in
-    let j = c .before .before .before .before .loop .j in
-    Totalled (a .w) (λ i. apart (cell 0 (a .a .now) (a .a-at) (a .a-stride) j i) (cell 0 (a .b .now) (a .b-at) (a .b-stride) j i))
-    (λ i. bitOr (cell 0 (a .a .now) (a .a-at) (a .a-stride) j i) (cell 0 (a .b .now) (a .b-at) (a .b-stride) j i))
-    (c .sad-row .result .sum) (c .sad-row .result .any)
-told c =
-    let a = c .before .before .before .before .before .before .before .args in
-    totalled-rows apart bitOr 0 0 (a .a .now) (a .a-at) (a .a-stride) (a .b .now) (a .b-at) (a .b-stride) (c .before .before .before .before .loop .j) (a .w) _ _
-    (row-part (a .a .now) (a .a-at) (a .a-stride) (c .before .before .before .before .loop .j) (a .w)) (row-part (a .b .now) (a .b-at) (a .b-stride) (c .before .before .before .before .loop .j) (a .w))
-    (c .sad-row .ensures)
-
--- what a row adds at most
-most :
-    (c : tie.After-sad-row Inv-loop μ-loop) (j : ℕ) →
-    let a = c .before .before .before .before .before .before .before .args in
-    sumN (a .w) (λ i. apart (cell 0 (a .a .now) (a .a-at) (a .a-stride) j i) (cell 0 (a .b .now) (a .b-at) (a .b-stride) j i)) ≤ 4194240
-unfolding cell
-most c j =
-    let s = c .before .before .before .before .before .before .before in
-    let a = s .args in
-    row-most (a .w) 65535 (λ i. apart (cell 0 (a .a .now) (a .a-at) (a .a-stride) j i) (cell 0 (a .b .now) (a .b-at) (a .b-stride) j i)) (s .pre .narrow)
-    (λ i.
-    apart-le (cell 0 (a .a .now) (a .a-at) (a .a-stride) j i) (cell 0 (a .b .now) (a .b-at) (a .b-stride) j i)
-    (omega (arith, c .before .before .before .before .before .before .shared-slice-known .given (a .a-at + j * a .a-stride + i)))
-    (omega (arith, c .before .before .before .before .before .shared-slice-known2 .given (a .b-at + j * a .b-stride + i))))
+sad-row-requires c κs = let s = c .before .before .before .before .before .before in two-parts (s .args .a .now) (s .args .b .now) (s .pre) (omega arith)
 
 add-sum : tie.Need-add-sum Inv-loop μ-loop
 add-sum c =
-    omega (arith, running-next 4194240 (c .before .before .before .before .before .loop .inv) (omega arith) (told (c .before) .total) (λ j h. most (c .before) j))
+    let l = c .before .before .before .before .before in
+    omega (arith, running-next (l .loop .inv) (omega arith) (l .before .before .before .pre .low) (c .before .sad-row .ensures .most))
 
 add-j : tie.Need-add-j Inv-loop μ-loop
 add-j c = omega arith
@@ -120,12 +88,18 @@ add-j c = omega arith
 loop-less : tie.Need-loop-less Inv-loop μ-loop
 loop-less c = omega arith
 
+-- what the rows told, said of the blocks
 loop-again : tie.Need-loop-again Inv-loop μ-loop
 loop-again c =
-    running-step (c .before .before .before .before .before .before .loop .inv) (omega arith) (told (c .before .before) .total) (told (c .before .before) .marks)
+    let l = c .before .before .before .before .before .before in
+    let a = l .before .before .before .args in
+    let j = l .loop .j in
+    running-row (l .loop .inv) (omega arith)
+    (rows-alike apart bitOr (part-same 0 (a .a .now) (a .a-at) (a .a-stride) j (a .w)) (part-same 0 (a .b .now) (a .b-at) (a .b-stride) j (a .w)) (c .before .before .sad-row .ensures))
+    refl refl
 
 returns : tie.Need-returns Inv-loop μ-loop
-returns c = running-end (c .before .loop .inv) (omega arith)
+returns c = running-end (c .before .loop .inv) (omega arith) (c .before .before .before .before .pre .low)
 
 pub sad-rows-spec : {M : Type 1} → statement M
 sad-rows-spec =

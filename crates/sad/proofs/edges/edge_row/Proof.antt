@@ -1,13 +1,9 @@
 -- `sad::edges::edge_row` meets its contract. Assumes nothing.
-use mathlib.Core.Path.{sym, ap, _∙_}
+use mathlib.Core.Path.{sym}
 use lib.Bits.{bitOr}
-use lib.IntN.{ℤ, pos, _+ℤ_}
-use lib.ListN.{getD}
-use mir.Facts.{toZ-ofZ}
-use Rattle.evc.specs.Planes.{edge}
-use Rattle.block_rows.specs.Totals.{apart}
-use Rattle.block_rows.proofs.Cells.{totalled-ext}
-use Rattle.block_rows.proofs.Line.{line-room, line-long, line-length, line-at}
+use Rattle.block_rows.specs.Totals.{apart, valueAt}
+use Rattle.block_rows.proofs.Cells.{same, rows-alike}
+use Rattle.block_rows.proofs.Line.{line-room, line-long, line-length, line-same}
 use borrow.Author.Needs.{needs}
 use Rattle.sad.proofs.edges.edge_row.Statement.{statement}
 use Rattle.sad.proofs.edges.edge_row.Tie as tie
@@ -35,16 +31,8 @@ sad-row-requires c κs =
 returns : tie.Need-returns
 returns c =
     let s = c .before .before .before .before .before .before .before in
-    let a = s .args in
-    let e = toZ-ofZ (s .fits .x) in
-    totalled-ext (λ i. apart (getD (a .a .now) i 0) (getD (a .row .now) (edge (a .x +ℤ pos i)) 0)) (λ i. bitOr (getD (a .a .now) i 0) (getD (a .row .now) (edge (a .x +ℤ pos i)) 0))
+    rows-alike apart bitOr (same (valueAt 0 (s .args .a .now))) (line-same _ _ (s .args .row .now) (s .pre .1) (s .fits .x) (c .before .before .before .edge-row .ensures))
     (c .sad-row .ensures)
-    (λ i p.
-    ap (apart (getD (a .a .now) i 0))
-    (line-at _ _ (s .pre .1) _ _ (c .before .before .before .edge-row .ensures) i p ∙ ap (λ (z : ℤ). getD (a .row .now) (edge (z +ℤ pos i)) 0) e))
-    (λ i p.
-    ap (bitOr (getD (a .a .now) i 0))
-    (line-at _ _ (s .pre .1) _ _ (c .before .before .before .edge-row .ensures) i p ∙ ap (λ (z : ℤ). getD (a .row .now) (edge (z +ℤ pos i)) 0) e))
 
 pub edge-row-spec : {M : Type 1} → statement M
 edge-row-spec =

@@ -8,7 +8,7 @@ use lib.Signed.{_≤ℤ_, _<ℤ_}
 use mir.Syntax.{w32}
 use Rattle.integers.proofs.Order.{<ℤ-≤ℤ}
 use Rattle.integers.proofs.Bits.{lt-held, lt-failed}
-use Rattle.block_rows.proofs.Samples.{abs-minus}
+use Rattle.block_rows.proofs.Signed.{abs-minus}
 use Rattle.integers.proofs.Expr.{Ex, Known, env, nat, var, lit, sub, loc, fit, reads, to-unsigned}
 use Rattle.integers.proofs.Parts.{sub-nonneg}
 use Rattle.block_rows.specs.Totals.{apart}

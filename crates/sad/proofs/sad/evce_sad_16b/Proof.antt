@@ -1,14 +1,13 @@
 -- `sad::sad::evce_sad_16b` meets its contract: each refusal is the first broken test, and what is left is read alike. Assumes nothing.
 use mathlib.Core.Path.{_≡_, refl, sym, ap, _∙_}
 use mathlib.Core.Bool.{false, _||_}
-use Prim.Native.Nat.{ℕ, _+_, _*_, _-_, _/_, _^_, _≤_}
+use Prim.Native.Nat.{ℕ, _+_, _*_, _-_, _/_, _^_}
 use native.Mathlib.Omega.{arith}
 use borrow.Author.Needs.{needs}
-use lib.IntN.{pos, _+ℤ_}
+use lib.Bits.{bitOr}
 use lib.ListN.{length}
 use Rattle.integers.proofs.Bools.{neither-left, neither-right}
 use Rattle.evc.specs.Tests.{outside}
-use Rattle.evc.specs.Planes.{edge}
 use Rattle.evc.proofs.Tests.{outside-no}
 use Rattle.plane_tests.specs.Areas.{outsidePlane, outsideEdges}
 use Rattle.plane_tests.specs.Blocks.{cell}
@@ -113,37 +112,25 @@ sad-answer-requires c κs = search needs
 told :
     (c : tie.After-sad-answer) →
     let a = c .before .before .before .before .before .before .before .before .before .before .before .before .args in
-    BlocksTotalled apart (a .w) (a .h) (cell 0 (a .org .now) (a .y * a .stride + a .x) (a .stride)) (edgeCell (a .reference .now) (a .ref-stride) (a .mv-x) (a .mv-y))
+    BlocksTotalled (64 * (64 * 65535)) apart bitOr (a .w) (a .h) (cell 0 (a .org .now) (a .y * a .stride + a .x) (a .stride)) (edgeCell (a .reference .now) (a .ref-stride) (a .mv-x) (a .mv-y))
     (c .before .total .result .sum) (c .before .total .result .any)
 told c =
     let s = c .before .before .before .before .before .before .before .before .before .before .before .before in
     let a = s .args in
     of-bits
     (λ x y.
-    BlocksTotalled apart (a .w) (a .h) (cell 0 (a .org .now) (a .y * a .stride + a .x) (a .stride)) (edgeCell (a .reference .now) (a .ref-stride) x y)
+    BlocksTotalled (64 * (64 * 65535)) apart bitOr (a .w) (a .h) (cell 0 (a .org .now) (a .y * a .stride + a .x) (a .stride)) (edgeCell (a .reference .now) (a .ref-stride) x y)
     (c .before .total .result .sum) (c .before .total .result .any))
     (s .fits .mv-x) (s .fits .mv-y) (c .before .total .ensures)
-
--- samples have 16 bits
-small : (c : tie.After-sad-answer) (j i : ℕ) → let a = c .before .before .before .before .before .before .before .before .before .before .before .before .args in cell 0 (a .org .now) (a .y * a .stride + a .x) (a .stride) j i ≤ 65535
-unfolding cell
-small c j i = let a = c .before .before .before .before .before .before .before .before .before .before .before .before .args in omega (arith, c .before .before .before .before .before .before .before .before .before .before .before .shared-slice-known .given (a .y * a .stride + a .x + j * a .stride + i))
-
-small-too : (c : tie.After-sad-answer) (j i : ℕ) → let a = c .before .before .before .before .before .before .before .before .before .before .before .before .args in edgeCell (a .reference .now) (a .ref-stride) (a .mv-x) (a .mv-y) j i ≤ 65535
-unfolding edgeCell
-small-too c j i =
-    let a = c .before .before .before .before .before .before .before .before .before .before .before .before .args in
-    omega (arith, c .before .before .before .before .before .before .before .before .before .before .shared-slice-known2 .given (edge (a .mv-y +ℤ pos j) * a .ref-stride + edge (a .mv-x +ℤ pos i)))
 
 returns-5 : tie.Need-returns-5
 returns-5 c =
     let a = c .before .before .before .before .before .before .before .before .before .before .before .before .args in
     let p = plane-alike (a .org .now) (a .width) (a .height) (a .stride) (a .x) (a .y) (a .w) (a .h) (a .depth) (a .y * a .stride + a .x) refl in
     let q = edges-alike (a .reference .now) (a .ref-width) (a .ref-height) (a .ref-stride) (a .mv-x) (a .mv-y) (a .w) (a .h) (a .depth) in
-    let b = ready (c .before .before) .two in
     c .sad-answer .ensures
     ∙ sad-totalled (a .w) (a .h) (a .depth) (cell 0 (a .org .now) (a .y * a .stride + a .x) (a .stride)) (edgeCell (a .reference .now) (a .ref-stride) (a .mv-x) (a .mv-y))
-    (outside-no 8 14 (a .depth) (deep (c .before .before .before .before .before .before))) (b .narrow) (b .low) (small c) (small-too c) (told c)
+    (outside-no 8 14 (a .depth) (deep (c .before .before .before .before .before .before))) (told c)
     ∙ rest-alike p q _ _ (ap (λ (n : ℕ). n / 2 ^ (a .depth - 8)) (sad-alike p q))
     ∙ sad-rest _ _ _ _ _ (sized (c .before .before .before .before .before .before .before .before)) (deep (c .before .before .before .before .before .before)) (one (c .before .before .before .before)) (two (c .before .before))
 

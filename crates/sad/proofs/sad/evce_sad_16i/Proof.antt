@@ -1,7 +1,7 @@
 -- `sad::sad::evce_sad_16i` meets its contract: each refusal is the first broken test, and what is left is read alike. Assumes nothing.
 use mathlib.Core.Path.{_≡_, refl, sym, ap, _∙_}
 use mathlib.Core.Bool.{false, _||_}
-use Prim.Native.Nat.{ℕ, _+_, _*_, _-_, _/_, _^_, _≤_}
+use Prim.Native.Nat.{ℕ, _+_, _*_, _-_, _/_, _^_}
 use native.Mathlib.Omega.{arith}
 use borrow.Author.Needs.{needs}
 use lib.ListN.{length}
@@ -88,24 +88,14 @@ sad-block-requires c κs = blocks c
 sad-answer-requires : tie.Need-sad-answer-requires
 sad-answer-requires c κs = search needs
 
--- samples have 16 bits
-small : (c : tie.After-sad-answer) (j i : ℕ) → let a = c .before .before .before .before .before .before .before .before .before .before .before .before .args in cell 0 (a .org .now) (a .y * a .stride + a .x) (a .stride) j i ≤ 65535
-unfolding cell
-small c j i = let a = c .before .before .before .before .before .before .before .before .before .before .before .before .args in omega (arith, c .before .before .before .before .before .before .before .before .before .before .before .shared-slice-known .given (a .y * a .stride + a .x + j * a .stride + i))
-
-small-too : (c : tie.After-sad-answer) (j i : ℕ) → let a = c .before .before .before .before .before .before .before .before .before .before .before .before .args in cell 0 (a .pred .now) 0 (a .w) j i ≤ 65535
-unfolding cell
-small-too c j i = omega (arith, c .before .before .before .before .before .before .before .before .before .before .shared-slice-known2 .given (0 + j * c .before .before .before .before .before .before .before .before .before .before .before .before .args .w + i))
-
 returns-5 : tie.Need-returns-5
 returns-5 c =
     let a = c .before .before .before .before .before .before .before .before .before .before .before .before .args in
     let p = plane-alike (a .org .now) (a .width) (a .height) (a .stride) (a .x) (a .y) (a .w) (a .h) (a .depth) (a .y * a .stride + a .x) refl in
     let q = plane-alike (a .pred .now) (a .w) (a .h) (a .w) 0 0 (a .w) (a .h) (a .depth) 0 (omega arith) in
-    let b = blocks (c .before .before) in
     c .sad-answer .ensures
     ∙ sad-totalled (a .w) (a .h) (a .depth) (cell 0 (a .org .now) (a .y * a .stride + a .x) (a .stride)) (cell 0 (a .pred .now) 0 (a .w))
-    (outside-no 8 14 (a .depth) (deep (c .before .before .before .before .before .before))) (b .narrow) (b .low) (small c) (small-too c) (c .before .sad-block .ensures)
+    (outside-no 8 14 (a .depth) (deep (c .before .before .before .before .before .before))) (c .before .sad-block .ensures)
     ∙ rest-alike p q _ _ (ap (λ (n : ℕ). n / 2 ^ (a .depth - 8)) (sad-alike p q))
     ∙ sad-rest _ _ _ _ _ (sized (c .before .before .before .before .before .before .before .before)) (deep (c .before .before .before .before .before .before)) (one (c .before .before .before .before)) (two (c .before .before))
 

@@ -1,15 +1,13 @@
 -- `sad_bi::blocks::sad_block` meets its contract. Assumes nothing.
 use mathlib.Core.Path.{_≡_, sym, subst}
 use mathlib.Core.List.{List}
-use Prim.Native.Nat.{ℕ, _*_, _≤_}
+use Prim.Native.Nat.{ℕ, _*_}
 use borrow.Author.Needs.{needs}
-use lib.Bits.{bitOr}
 use lib.IntN.{ℤ, pos}
 use lib.ListN.{length}
 use Rattle.plane_tests.specs.Blocks.{TwoBlocks, cell}
-use Rattle.sad_bi.specs.Marks.{lowMark}
-use Rattle.block_rows.specs.Totals.{Compared}
-use Rattle.sad_bi.specs.Totals.{apartBi}
+use Rattle.block_rows.specs.Totals.{BlocksTotalled}
+use Rattle.sad_bi.specs.Totals.{apartBi, markBi}
 use Rattle.sad_bi.proofs.blocks.sad_block.Statement.{statement}
 use Rattle.sad_bi.proofs.blocks.sad_block.Tie as tie
 
@@ -18,13 +16,10 @@ module _ (w k h : ℕ) (a : List ℤ) (b : List ℕ) (s t : ℕ) (e : w ≡ k) w
   asked : TwoBlocks w h (length a) 0 w (length b) s t → TwoBlocks k h (length a) 0 k (length b) s t
   asked p = subst (λ (n : ℕ). TwoBlocks n h (length a) 0 n (length b) s t) e p
 
-  abbrev Says : ℕ → ℕ → ℕ → Type 0
-  Says n sum any =
-      Compared n h (λ j i. apartBi (cell (pos 0) a 0 n j i) (cell 0 b s t j i)) (λ j i. bitOr (lowMark (cell (pos 0) a 0 n j i)) (cell 0 b s t j i)) sum any
-      × (sum ≤ h * 6291392)
-
-  told : {sum any : ℕ} → Says k sum any → Says w sum any
-  told {sum} {any} p = subst (λ (n : ℕ). Says n sum any) (sym e) p
+  told :
+      {x y : ℕ} → BlocksTotalled (64 * (64 * 98303)) apartBi markBi k h (cell (pos 0) a 0 k) (cell 0 b s t) x y →
+      BlocksTotalled (64 * (64 * 98303)) apartBi markBi w h (cell (pos 0) a 0 w) (cell 0 b s t) x y
+  told {x} {y} p = subst (λ (n : ℕ). BlocksTotalled (64 * (64 * 98303)) apartBi markBi n h (cell (pos 0) a 0 n) (cell 0 b s t) x y) (sym e) p
 
 sad-rows-requires : tie.Need-sad-rows-requires
 sad-rows-requires c κs = let a = c .before .before .args in asked (a .w) 64 (a .h) (a .a .now) (a .b .now) (a .b-at) (a .b-stride) (c .match .keys1) (c .before .before .pre)

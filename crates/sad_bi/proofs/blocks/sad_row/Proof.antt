@@ -1,7 +1,6 @@
--- `sad_bi::blocks::sad_row` meets its contract. A signed slice tells nothing of the elements that aren't read yet, so the invariant bounds the sum itself.
--- Assumes nothing.
+-- `sad_bi::blocks::sad_row` meets its contract. Assumes nothing.
 use mathlib.Core.Path.{_≡_, ap, _∙_}
-use Prim.Native.Nat.{ℕ, _-_, _*_, _≤_}
+use Prim.Native.Nat.{ℕ, _-_}
 use native.Mathlib.Omega.{arith}
 use lib.Bits.{bitOr}
 use lib.IntN.{ℤ, pos}
@@ -17,13 +16,13 @@ use Rattle.sad_bi.proofs.blocks.sad_row.Tie as tie
 
 abbrev Inv-loop : tie.InvT-loop
 Inv-loop a b w sum₀ any₀ i₀ sum any i =
-    Running w (λ k. apartBi (getD a k (pos 0)) (getD b k 0)) (λ k. bitOr (lowMark (getD a k (pos 0))) (getD b k 0)) sum any i × (sum ≤ i * 98303)
+    Running 98303 w (λ k. apartBi (getD a k (pos 0)) (getD b k 0)) (λ k. bitOr (lowMark (getD a k (pos 0))) (getD b k 0)) sum any i
 
 abbrev μ-loop : tie.MeasureT-loop
 μ-loop a b w sum₀ any₀ i₀ sum any i = w - i
 
 loop-holds : tie.Need-loop-holds Inv-loop μ-loop
-loop-holds c = (running-start, omega arith)
+loop-holds c = running-start
 
 mul-v : tie.Need-mul-v Inv-loop μ-loop
 mul-v c = omega arith
@@ -57,17 +56,15 @@ loop-again c =
     let l = c .before .before .before .before .before .loop in
     let a = c .before .before .before .before .before .before .before .args in
     let z = getD (a .a .now) (l .i) (pos 0) in
-    let v : toZ w16 (ofZ w16 z) ≡ z = toZ-ofZ (record { sfits = c .before .before .before .v .given }) in (
-      running-step (l .inv .0) (omega arith) (c .distance .ensures .0 ∙ ap (λ (z : ℤ). apartBi z (getD (a .b .now) (l .i) 0)) v)
-          (ap (λ (m : ℕ). bitOr m (getD (a .b .now) (l .i) 0)) (c .before .low-mark .ensures ∙ ap lowMark v)),
-      omega (arith, c .distance .ensures .1),
-    )
+    let v : toZ w16 (ofZ w16 z) ≡ z = toZ-ofZ (record { sfits = c .before .before .before .v .given }) in
+    running-step (l .inv) (omega arith) (c .distance .ensures .0 ∙ ap (λ (z : ℤ). apartBi z (getD (a .b .now) (l .i) 0)) v)
+    (ap (λ (m : ℕ). bitOr m (getD (a .b .now) (l .i) 0)) (c .before .low-mark .ensures ∙ ap lowMark v)) (c .distance .ensures .1)
 
 cast-all : tie.Need-cast-all Inv-loop μ-loop
 cast-all c = omega (arith, c .before .before .before .pre)
 
 returns : tie.Need-returns Inv-loop μ-loop
-returns c = let l = c .before .loop in (running-end (l .inv .0) (omega arith), omega arith)
+returns c = running-end (c .before .loop .inv) (omega arith) (c .before .before .before .pre .small)
 
 pub sad-row-spec : {M : Type 1} → statement M
 sad-row-spec =

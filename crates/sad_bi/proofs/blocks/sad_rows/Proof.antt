@@ -1,33 +1,30 @@
 -- `sad_bi::blocks::sad_rows` meets its contract. Assumes nothing.
+use mathlib.Core.Path.{refl}
 use Prim.Native.Nat.{_+_, _-_, _*_, _≤_}
-use native.Mathlib.Nat.{le-trans, mul-le-mul-right}
 use native.Mathlib.Omega.{arith}
-use lib.Bits.{bitOr}
 use lib.IntN.{pos}
 use lib.ListN.{length}
 use Rattle.integers.specs.Sum.{sumN}
 use Rattle.integers.specs.Or.{orN}
 use Rattle.plane_tests.specs.Blocks.{cell}
-use Rattle.sad_bi.specs.Marks.{lowMark}
 use Rattle.plane_tests.proofs.Planes.{in-one, in-two}
-use Rattle.block_rows.specs.Totals.{Totalled}
-use Rattle.sad_bi.specs.Totals.{apartBi}
-use Rattle.block_rows.proofs.Running.{Running, running-start, running-step, running-end}
-use Rattle.block_rows.proofs.Cells.{packed-part, row-part, two-rows, totalled-rows}
+use Rattle.block_rows.proofs.Running.{Running, running-start, running-row, running-end, running-next}
+use Rattle.block_rows.proofs.Cells.{part-length, part-same, rows-alike}
+use Rattle.sad_bi.specs.Totals.{apartBi, markBi}
+use Rattle.sad_bi.proofs.Packed.{packed-length, packed-same}
 use Rattle.sad_bi.proofs.blocks.sad_rows.Statement.{statement}
 use Rattle.sad_bi.proofs.blocks.sad_rows.Tie as tie
 
 abbrev Inv-loop : tie.InvT-loop
 Inv-loop a b b-at b-stride w h sum₀ any₀ j₀ sum any j =
-    Running h (λ j. sumN w (λ i. apartBi (cell (pos 0) a 0 w j i) (cell 0 b b-at b-stride j i)))
-    (λ j. orN w (λ i. bitOr (lowMark (cell (pos 0) a 0 w j i)) (cell 0 b b-at b-stride j i))) sum any j
-    × (sum ≤ j * 6291392)
+    Running (64 * 98303) h (λ j. sumN w (λ i. apartBi (cell (pos 0) a 0 w j i) (cell 0 b b-at b-stride j i)))
+    (λ j. orN w (λ i. markBi (cell (pos 0) a 0 w j i) (cell 0 b b-at b-stride j i))) sum any j
 
 abbrev μ-loop : tie.MeasureT-loop
 μ-loop a b b-at b-stride w h sum₀ any₀ j₀ sum any j = h - j
 
 loop-holds : tie.Need-loop-holds Inv-loop μ-loop
-loop-holds c = (running-start, omega arith)
+loop-holds c = running-start
 
 -- where the rows end
 one : (c : tie.In-loop Inv-loop μ-loop) → let a = c .before .before .before .args in 0 + c .before .loop .j * a .w + a .w ≤ length (a .a .now)
@@ -77,31 +74,19 @@ part-sad-row-end-2 c = two (c .before)
 
 sad-row-requires : tie.Need-sad-row-requires Inv-loop μ-loop
 sad-row-requires c κs =
-    let s = c .before .before .before .before .before in
+    let l = c .before .before .before in
+    let s = l .before .before in
     let a = s .args in
-    two-rows (a .w) (a .h) (a .a .now) 0 (a .w) (a .b .now) (a .b-at) (a .b-stride) (s .pre) (c .before .before .before .loop .j) (c .before .before .loop-test .taken)
-    _ _ (packed-part (a .a .now) (c .before .before .before .loop .j) (a .w)) (row-part (a .b .now) (a .b-at) (a .b-stride) (c .before .before .before .loop .j) (a .w))
-
--- what the rows told, said of the blocks
-told :
-    (c : tie.After-sad-row Inv-loop μ-loop) →
-    let a = c .before .before .before .before .before .before .args in
-    let j = c .before .before .before .before .loop .j in
-    Totalled (a .w) (λ i. apartBi (cell (pos 0) (a .a .now) 0 (a .w) j i) (cell 0 (a .b .now) (a .b-at) (a .b-stride) j i))
-    (λ i. bitOr (lowMark (cell (pos 0) (a .a .now) 0 (a .w) j i)) (cell 0 (a .b .now) (a .b-at) (a .b-stride) j i))
-    (c .sad-row .result .sum) (c .sad-row .result .any)
-told c =
-    let a = c .before .before .before .before .before .before .args in
-    totalled-rows apartBi (λ v q. bitOr (lowMark v) q) (pos 0) 0 (a .a .now) 0 (a .w) (a .b .now) (a .b-at) (a .b-stride) (c .before .before .before .before .loop .j)
-    (a .w) _ _ (packed-part (a .a .now) (c .before .before .before .before .loop .j) (a .w)) (row-part (a .b .now) (a .b-at) (a .b-stride) (c .before .before .before .before .loop .j) (a .w))
-    (c .sad-row .ensures .0)
-
--- what a row adds at most
-most : (c : tie.After-sad-row Inv-loop μ-loop) → c .sad-row .result .sum ≤ 6291392
-most c = le-trans (c .sad-row .ensures .1) (mul-le-mul-right 98303 (c .before .before .before .before .before .before .pre .narrow))
+    record {
+      one = packed-length (a .a .now) (l .loop .j) (a .w) (one (c .before .before));
+      two = part-length (a .b .now) (a .b-at) (a .b-stride) (l .loop .j) (a .w) (two (c .before .before));
+      small = s .pre .narrow;
+    }
 
 add-sum : tie.Need-add-sum Inv-loop μ-loop
-add-sum c = omega (arith, most (c .before), c .before .before .before .before .before .before .before .pre .low)
+add-sum c =
+    let l = c .before .before .before .before .before in
+    omega (arith, running-next (l .loop .inv) (omega arith) (l .before .before .pre .low) (c .before .sad-row .ensures .most))
 
 add-j : tie.Need-add-j Inv-loop μ-loop
 add-j c = omega arith
@@ -109,13 +94,18 @@ add-j c = omega arith
 loop-less : tie.Need-loop-less Inv-loop μ-loop
 loop-less c = omega arith
 
+-- what the rows told, said of the blocks
 loop-again : tie.Need-loop-again Inv-loop μ-loop
 loop-again c =
-    let t = told (c .before .before) in
-    (running-step (c .before .before .before .before .before .before .loop .inv .0) (omega arith) (t .total) (t .marks), omega (arith, most (c .before .before)))
+    let l = c .before .before .before .before .before .before in
+    let a = l .before .before .args in
+    let j = l .loop .j in
+    running-row (l .loop .inv) (omega arith)
+    (rows-alike apartBi markBi (packed-same (a .a .now) j (a .w) (pos 0)) (part-same 0 (a .b .now) (a .b-at) (a .b-stride) j (a .w)) (c .before .before .sad-row .ensures))
+    refl refl
 
 returns : tie.Need-returns Inv-loop μ-loop
-returns c = (running-end (c .before .loop .inv .0) (omega arith), omega arith)
+returns c = running-end (c .before .loop .inv) (omega arith) (c .before .before .before .pre .low)
 
 pub sad-rows-spec : {M : Type 1} → statement M
 sad-rows-spec =

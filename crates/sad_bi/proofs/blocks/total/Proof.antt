@@ -17,9 +17,11 @@ use Rattle.evc.proofs.Marks.{below-all}
 use Rattle.plane_tests.specs.Blocks.{TwoBlocks, cell}
 use Rattle.sad_bi.specs.Marks.{lowMark}
 use Rattle.sad_bi.specs.Totals.{apartBi}
-use Rattle.sad_bi.specs.Near.{nearBi, InRuns, AllRunsTotalled}
-use Rattle.sad_bi.specs.Totals.{BiCounted}
+use Rattle.sad_bi.specs.Near.{nearBi, InRuns}
+use Rattle.sad_bi.specs.Totals.{BiCounted, markBi}
 use Rattle.sad_bi.proofs.Cut.{near-is}
+use Rattle.block_rows.specs.Totals.{BlocksTotalled}
+use Rattle.sad_bi.proofs.Ends.{counted-all}
 use Rattle.sad_bi.proofs.Pairs.{sum-rows}
 use Rattle.sad_bi.proofs.blocks.total.Statement.{statement}
 use Rattle.sad_bi.proofs.blocks.total.Tie as tie
@@ -47,9 +49,9 @@ module _ (a : List ℤ) (b : List ℕ) (s : ℕ) where
   same-sum m g w h v k e = packed-sum m g v k ∙ ap (λ (n : ℕ). sum m n (λ k. g (getD a k (pos 0)) (getD b (s + k) 0))) e ∙ sym (packed-sum m g w h)
 
   counted :
-      (w h n count t : ℕ) {x y : ℕ} → t ≡ w → count * (n + n) ≡ h * w → count ≤ 64 → AllRunsTotalled n count a b s x y → x ≤ count * 16842495 →
+      (w h n count t : ℕ) {x y : ℕ} → t ≡ w → count * (n + n) ≡ h * w → BlocksTotalled (64 * 16842495) nearBi markBi (n + n) count (cell (pos 0) a 0 (n + n)) (cell 0 b s (n + n)) x y →
       BiCounted w h (cell (pos 0) a 0 w) (cell 0 b s t) x y
-  counted w h n count t {x} {y} d e l r most = subst (λ (t : ℕ). BiCounted w h (cell (pos 0) a 0 w) (cell 0 b s t) x y) (sym d) (record { total = right; marks = marks; most = omega arith })
+  counted w h n count t {x} {y} d e r = subst (λ (t : ℕ). BiCounted w h (cell (pos 0) a 0 w) (cell 0 b s t) x y) (sym d) (record { total = right; marks = marks; most = omega (arith, r .most) })
     where
       marks : y ≡ orN h (λ j. orN w (λ i. bitOr (lowMark (cell (pos 0) a 0 w j i)) (cell 0 b s w j i)))
       marks = r .marks ∙ same-sum ofOr (λ v q. bitOr (lowMark v) q) w h (n + n) count e
@@ -95,9 +97,8 @@ returns : tie.Need-returns
 returns c =
     let s = c .before .before .before .before in
     let a = s .args in
-    let t = c .runs .ensures in
     counted (a .a .now) (a .b .now) (a .b-at) (a .w) (a .h) 256 (a .w * a .h / 512) (a .b-stride) (c .before .before .if1 .taken)
-    (divided (a .w) (a .h) 512 (c .before .if2 .taken)) (omega (arith, size-le (s .pre .narrow) (s .pre .low))) (t .0) (t .1)
+    (divided (a .w) (a .h) 512 (c .before .if2 .taken)) (c .runs .ensures)
 
 runs-requires-2 : tie.Need-runs-requires-2
 runs-requires-2 c κs =
@@ -110,17 +111,14 @@ returns-2 : tie.Need-returns-2
 returns-2 c =
     let s = c .before .before .before .before .before in
     let a = s .args in
-    let t = c .runs2 .ensures in
     counted (a .a .now) (a .b .now) (a .b-at) (a .w) (a .h) 32 (a .w * a .h / 64) (a .b-stride) (c .before .before .before .if1 .taken)
-    (divided (a .w) (a .h) 64 (c .before .if3 .taken)) (omega (arith, size-le (s .pre .narrow) (s .pre .low))) (t .0) (t .1)
+    (divided (a .w) (a .h) 64 (c .before .if3 .taken)) (c .runs2 .ensures)
 
 sad-block-requires : tie.Need-sad-block-requires
 sad-block-requires c κs = search needs
 
 returns-3 : tie.Need-returns-3
-returns-3 c =
-    let t = c .sad-block .ensures in
-    record { total = λ k. t .0 .total; marks = t .0 .marks; most = omega (arith, t .1, c .before .before .before .pre .low) }
+returns-3 c = counted-all _ _ _ _ (c .sad-block .ensures)
 
 pub total-spec : {M : Type 1} → statement M
 total-spec = tie.close (tie.spec mul-size runs-requires returns runs-requires-2 returns-2 sad-block-requires returns-3)

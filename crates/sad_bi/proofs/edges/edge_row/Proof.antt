@@ -1,16 +1,11 @@
 -- `sad_bi::edges::edge_row` meets its contract. Assumes nothing.
-use mathlib.Core.Path.{sym, ap, _∙_}
-use Prim.Native.Nat.{ℕ}
-use lib.Bits.{bitOr}
-use lib.IntN.{ℤ, pos, _+ℤ_}
-use lib.ListN.{getD}
-use mir.Facts.{toZ-ofZ}
-use Rattle.evc.specs.Planes.{edge}
-use Rattle.sad_bi.specs.Marks.{lowMark}
-use Rattle.block_rows.proofs.Cells.{totalled-ext}
-use Rattle.block_rows.proofs.Line.{line-room, line-long, line-length, line-at}
+use mathlib.Core.Path.{sym}
+use lib.IntN.{pos}
+use Rattle.block_rows.specs.Totals.{valueAt}
+use Rattle.block_rows.proofs.Cells.{same, rows-alike}
+use Rattle.block_rows.proofs.Line.{line-room, line-long, line-length, line-same}
 use borrow.Author.Needs.{needs}
-use Rattle.sad_bi.specs.Totals.{apartBi}
+use Rattle.sad_bi.specs.Totals.{apartBi, markBi}
 use Rattle.sad_bi.proofs.edges.edge_row.Statement.{statement}
 use Rattle.sad_bi.proofs.edges.edge_row.Tie as tie
 
@@ -37,19 +32,8 @@ sad-row-requires c κs =
 returns : tie.Need-returns
 returns c =
     let s = c .before .before .before .before .before .before in
-    let a = s .args in
-    let e = toZ-ofZ (s .fits .x) in
-    let A : ℕ → ℤ = λ i. getD (a .a .now) i (pos 0) in
-    let F : ℕ → ℕ = λ i. getD (a .row .now) (edge (a .x +ℤ pos i)) 0 in (
-      totalled-ext (λ i. apartBi (A i) (F i)) (λ i. bitOr (lowMark (A i)) (F i)) (c .sad-row .ensures .0)
-          (λ i p.
-          ap (apartBi (A i))
-          (line-at _ _ (s .pre .1) _ _ (c .before .before .before .edge-row .ensures) i p ∙ ap (λ (z : ℤ). getD (a .row .now) (edge (z +ℤ pos i)) 0) e))
-          (λ i p.
-          ap (bitOr (lowMark (A i)))
-          (line-at _ _ (s .pre .1) _ _ (c .before .before .before .edge-row .ensures) i p ∙ ap (λ (z : ℤ). getD (a .row .now) (edge (z +ℤ pos i)) 0) e)),
-      c .sad-row .ensures .1,
-    )
+    rows-alike apartBi markBi (same (valueAt (pos 0) (s .args .a .now)))
+    (line-same _ _ (s .args .row .now) (s .pre .1) (s .fits .x) (c .before .before .before .edge-row .ensures)) (c .sad-row .ensures)
 
 pub edge-row-spec : {M : Type 1} → statement M
 edge-row-spec =

@@ -15,7 +15,7 @@ use Rattle.integers.proofs.Bits.{lt-held, lt-failed}
 use Rattle.integers.proofs.Expr.{Ex, Known, env, nat, var, lit, sub, loc, fit, reads, to-unsigned}
 use Rattle.integers.proofs.Parts.{sub-nonneg}
 use Rattle.sad_bi.specs.Near.{raise, nearBi}
-use Rattle.block_rows.proofs.Samples.{abs-minus}
+use Rattle.block_rows.proofs.Signed.{abs-minus}
 use Rattle.sad_bi.proofs.Cut.{near-within}
 use Rattle.sad_bi.proofs.near.near.Statement.{statement}
 use Rattle.sad_bi.proofs.near.near.Tie as tie

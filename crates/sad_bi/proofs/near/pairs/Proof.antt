@@ -152,11 +152,9 @@ returns c =
     let B : ℕ → ℕ = λ k. getD (a .b .now) k 0 in
     let f : ℕ → ℕ = λ k. nearBi (A k) (B k) in
     let M : ℕ → ℕ = λ k. lowMark (A k) in
-    let small = t .before .before .pre .small in (
-      subst (λ (m : ℕ). Totalled (a .n + a .n) f (λ k. bitOr (M k) (B k)) (l .high * 256 + r .result) (bitOr (l .any) m)) (sym (c .low-mark .ensures))
-          (paired-end (a .n) f M B (l .inv) (c .before .before .loop-test .left) small (r .result) (omega (arith, r .ok)) (r .ensures)),
-      omega (arith, r .ok, l .inv .few, l .inv .highs .most, small),
-    )
+    let small = t .before .before .pre .small in
+    subst (λ (m : ℕ). Totalled 16842495 (a .n + a .n) f (λ k. bitOr (M k) (B k)) (l .high * 256 + r .result) (bitOr (l .any) m)) (sym (c .low-mark .ensures))
+    (paired-end (a .n) f M B (l .inv) (c .before .before .loop-test .left) small (r .result) (omega (arith, r .ok)) (r .ensures))
 
 pub pairs-spec : {M : Type 1} → statement M
 pairs-spec =

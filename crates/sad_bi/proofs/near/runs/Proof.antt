@@ -1,26 +1,25 @@
 -- `sad_bi::near::runs` meets its contract. Assumes nothing.
+use mathlib.Core.Path.{refl}
 use Prim.Native.Nat.{ℕ, _+_, _-_, _*_, _≤_, _<_}
 use native.Mathlib.Nat.{mul-le-mul-right, add-mul}
 use native.Mathlib.Omega.{arith}
-use lib.Bits.{bitOr}
 use lib.IntN.{pos}
 use lib.ListN.{length}
 use Rattle.integers.specs.Sum.{sumN}
 use Rattle.integers.specs.Or.{orN}
 use Rattle.plane_tests.specs.Blocks.{cell}
-use Rattle.sad_bi.specs.Marks.{lowMark}
-use Rattle.block_rows.specs.Totals.{Totalled}
+use Rattle.block_rows.proofs.Running.{Running, running-start, running-row, running-end, running-next}
+use Rattle.block_rows.proofs.Cells.{part-length, part-same, rows-alike}
+use Rattle.sad_bi.specs.Totals.{markBi}
 use Rattle.sad_bi.specs.Near.{nearBi, InRuns}
-use Rattle.block_rows.proofs.Running.{Running, running-start, running-step, running-end}
-use Rattle.block_rows.proofs.Cells.{packed-part, packed-length, row-part, part-length, totalled-rows}
+use Rattle.sad_bi.proofs.Packed.{packed-length, packed-same}
 use Rattle.sad_bi.proofs.near.runs.Statement.{statement}
 use Rattle.sad_bi.proofs.near.runs.Tie as tie
 
 abbrev Inv-loop : tie.InvT-loop
 Inv-loop a b b-at n count w sum₀ any₀ j₀ sum any j =
-    Running count (λ j. sumN (n + n) (λ i. nearBi (cell (pos 0) a 0 (n + n) j i) (cell 0 b b-at (n + n) j i)))
-    (λ j. orN (n + n) (λ i. bitOr (lowMark (cell (pos 0) a 0 (n + n) j i)) (cell 0 b b-at (n + n) j i))) sum any j
-    × (sum ≤ j * 16842495)
+    Running 16842495 count (λ j. sumN (n + n) (λ i. nearBi (cell (pos 0) a 0 (n + n) j i) (cell 0 b b-at (n + n) j i)))
+    (λ j. orN (n + n) (λ i. markBi (cell (pos 0) a 0 (n + n) j i) (cell 0 b b-at (n + n) j i))) sum any j
 
 abbrev μ-loop : tie.MeasureT-loop
 μ-loop a b b-at n count w sum₀ any₀ j₀ sum any j = count - j
@@ -42,7 +41,7 @@ add-w : tie.Need-add-w Inv-loop μ-loop
 add-w c = omega (arith, c .before .pre .small)
 
 loop-holds : tie.Need-loop-holds Inv-loop μ-loop
-loop-holds c = (running-start, omega arith)
+loop-holds c = running-start
 
 -- where the runs end
 one : (c : tie.In-loop Inv-loop μ-loop) → let a = c .before .before .before .args in 0 + c .before .loop .j * (a .n + a .n) + (a .n + a .n) ≤ length (a .a .now)
@@ -100,23 +99,10 @@ pairs-requires c κs =
       small = s .pre .small;
     }
 
--- what the runs told, said of the buffers
-told :
-    (c : tie.After-pairs Inv-loop μ-loop) →
-    let a = c .before .before .before .before .before .before .args in
-    let w = a .n + a .n in
-    let j = c .before .before .before .before .loop .j in
-    Totalled w (λ i. nearBi (cell (pos 0) (a .a .now) 0 w j i) (cell 0 (a .b .now) (a .b-at) w j i))
-    (λ i. bitOr (lowMark (cell (pos 0) (a .a .now) 0 w j i)) (cell 0 (a .b .now) (a .b-at) w j i))
-    (c .pairs .result .sum) (c .pairs .result .any)
-told c =
-    let a = c .before .before .before .before .before .before .args in
-    let w = a .n + a .n in
-    totalled-rows nearBi (λ v q. bitOr (lowMark v) q) (pos 0) 0 (a .a .now) 0 w (a .b .now) (a .b-at) w (c .before .before .before .before .loop .j) w
-    _ _ (packed-part (a .a .now) (c .before .before .before .before .loop .j) w) (row-part (a .b .now) (a .b-at) w (c .before .before .before .before .loop .j) w) (c .pairs .ensures .0)
-
 add-sum : tie.Need-add-sum Inv-loop μ-loop
-add-sum c = omega (arith, c .before .pairs .ensures .1, c .before .before .before .before .before .before .before .pre .few)
+add-sum c =
+    let l = c .before .before .before .before .before in
+    omega (arith, running-next (l .loop .inv) (omega arith) (l .before .before .pre .few) (c .before .pairs .ensures .most))
 
 add-j : tie.Need-add-j Inv-loop μ-loop
 add-j c = omega arith
@@ -124,13 +110,18 @@ add-j c = omega arith
 loop-less : tie.Need-loop-less Inv-loop μ-loop
 loop-less c = omega arith
 
+-- what the runs told, said of the buffers
 loop-again : tie.Need-loop-again Inv-loop μ-loop
 loop-again c =
-    let t = told (c .before .before) in
-    (running-step (c .before .before .before .before .before .before .loop .inv .0) (omega arith) (t .total) (t .marks), omega (arith, c .before .before .pairs .ensures .1))
+    let l = c .before .before .before .before .before .before in
+    let a = l .before .before .args in
+    let w = a .n + a .n in
+    running-row (l .loop .inv) (omega arith)
+    (rows-alike nearBi markBi (packed-same (a .a .now) (l .loop .j) w (pos 0)) (part-same 0 (a .b .now) (a .b-at) w (l .loop .j) w) (c .before .before .pairs .ensures))
+    refl refl
 
 returns : tie.Need-returns Inv-loop μ-loop
-returns c = (running-end (c .before .loop .inv .0) (omega arith), omega (arith, c .before .loop .inv .0 .sums .most))
+returns c = running-end (c .before .loop .inv) (omega arith) (c .before .before .before .pre .few)
 
 pub runs-spec : {M : Type 1} → statement M
 runs-spec =

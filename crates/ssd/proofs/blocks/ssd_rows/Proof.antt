@@ -1,5 +1,6 @@
 -- `ssd::blocks::ssd_rows` meets its contract. Assumes nothing.
-use Prim.Native.Nat.{ℕ, _+_, _-_, _*_, _≤_}
+use mathlib.Core.Path.{refl}
+use Prim.Native.Nat.{_+_, _-_, _*_, _≤_}
 use native.Mathlib.Omega.{arith}
 use lib.Bits.{bitOr}
 use lib.ListN.{length}
@@ -7,17 +8,15 @@ use Rattle.integers.specs.Sum.{sumN}
 use Rattle.integers.specs.Or.{orN}
 use Rattle.plane_tests.specs.Blocks.{cell}
 use Rattle.plane_tests.proofs.Planes.{in-one, in-two}
-use Rattle.block_rows.specs.Totals.{Totalled}
-use Rattle.block_rows.proofs.Running.{Running, running-start, running-step, running-end, running-next}
-use Rattle.block_rows.proofs.Cells.{row-part, two-rows, totalled-rows, row-most}
+use Rattle.block_rows.proofs.Running.{Running, running-start, running-row, running-end, running-next}
+use Rattle.block_rows.proofs.Cells.{two-parts, part-same, rows-alike}
 use Rattle.ssd.specs.Squares.{squaredLow}
-use Rattle.ssd.proofs.Squares.{squared-low-le}
 use Rattle.ssd.proofs.blocks.ssd_rows.Statement.{statement}
 use Rattle.ssd.proofs.blocks.ssd_rows.Tie as tie
 
 abbrev Inv-loop : tie.InvT-loop
 Inv-loop a a-at a-stride b b-at b-stride w h depth sum₀ any₀ j₀ sum any j =
-    Running h (λ j. sumN w (λ i. squaredLow depth (cell 0 a a-at a-stride j i) (cell 0 b b-at b-stride j i)))
+    Running (64 * 65535) h (λ j. sumN w (λ i. squaredLow depth (cell 0 a a-at a-stride j i) (cell 0 b b-at b-stride j i)))
     (λ j. orN w (λ i. bitOr (cell 0 a a-at a-stride j i) (cell 0 b b-at b-stride j i))) sum any j
 
 abbrev μ-loop : tie.MeasureT-loop
@@ -78,40 +77,12 @@ part-ssd-row-end-2 c = two (c .before)
 ssd-row-requires : tie.Need-ssd-row-requires Inv-loop μ-loop
 ssd-row-requires c κs =
     let s = c .before .before .before .before .before .before in
-    let a = s .args in (
-      two-rows (a .w) (a .h) (a .a .now) (a .a-at) (a .a-stride) (a .b .now) (a .b-at) (a .b-stride) (s .pre .0) (c .before .before .before .loop .j) (omega arith) _ _
-          (row-part (a .a .now) (a .a-at) (a .a-stride) (c .before .before .before .loop .j) (a .w)) (row-part (a .b .now) (a .b-at) (a .b-stride) (c .before .before .before .loop .j) (a .w)),
-      s .pre .1,
-    )
-
--- what the rows told, said of the blocks
-told :
-    (c : tie.After-ssd-row Inv-loop μ-loop) →
-    let a = c .before .before .before .before .before .before .before .args in
-    let j = c .before .before .before .before .loop .j in
-    Totalled (a .w) (λ i. squaredLow (a .depth) (cell 0 (a .a .now) (a .a-at) (a .a-stride) j i) (cell 0 (a .b .now) (a .b-at) (a .b-stride) j i))
-    (λ i. bitOr (cell 0 (a .a .now) (a .a-at) (a .a-stride) j i) (cell 0 (a .b .now) (a .b-at) (a .b-stride) j i))
-    (c .ssd-row .result .sum) (c .ssd-row .result .any)
-told c =
-    let a = c .before .before .before .before .before .before .before .args in
-    totalled-rows (squaredLow (a .depth)) bitOr 0 0 (a .a .now) (a .a-at) (a .a-stride) (a .b .now) (a .b-at) (a .b-stride) (c .before .before .before .before .loop .j) (a .w) _ _
-    (row-part (a .a .now) (a .a-at) (a .a-stride) (c .before .before .before .before .loop .j) (a .w)) (row-part (a .b .now) (a .b-at) (a .b-stride) (c .before .before .before .before .loop .j) (a .w))
-    (c .ssd-row .ensures)
-
--- what a row adds at most
-most :
-    (c : tie.After-ssd-row Inv-loop μ-loop) (j : ℕ) →
-    let a = c .before .before .before .before .before .before .before .args in
-    sumN (a .w) (λ i. squaredLow (a .depth) (cell 0 (a .a .now) (a .a-at) (a .a-stride) j i) (cell 0 (a .b .now) (a .b-at) (a .b-stride) j i)) ≤ 4194240
-most c j =
-    let s = c .before .before .before .before .before .before .before in
-    let a = s .args in
-    row-most (a .w) 65535 (λ i. squaredLow (a .depth) (cell 0 (a .a .now) (a .a-at) (a .a-stride) j i) (cell 0 (a .b .now) (a .b-at) (a .b-stride) j i)) (s .pre .0 .narrow)
-    (λ i. squared-low-le (a .depth) (cell 0 (a .a .now) (a .a-at) (a .a-stride) j i) (cell 0 (a .b .now) (a .b-at) (a .b-stride) j i) (s .pre .1 .0))
+    (two-parts (s .args .a .now) (s .args .b .now) (s .pre .0) (omega arith), s .pre .1)
 
 add-sum : tie.Need-add-sum Inv-loop μ-loop
 add-sum c =
-    omega (arith, running-next 4194240 (c .before .before .before .before .before .loop .inv) (omega arith) (told (c .before) .total) (λ j h. most (c .before) j))
+    let l = c .before .before .before .before .before in
+    omega (arith, running-next (l .loop .inv) (omega arith) (l .before .before .before .pre .0 .low) (c .before .ssd-row .ensures .most))
 
 add-j : tie.Need-add-j Inv-loop μ-loop
 add-j c = omega arith
@@ -119,12 +90,19 @@ add-j c = omega arith
 loop-less : tie.Need-loop-less Inv-loop μ-loop
 loop-less c = omega arith
 
+-- what the rows told, said of the blocks
 loop-again : tie.Need-loop-again Inv-loop μ-loop
 loop-again c =
-    running-step (c .before .before .before .before .before .before .loop .inv) (omega arith) (told (c .before .before) .total) (told (c .before .before) .marks)
+    let l = c .before .before .before .before .before .before in
+    let a = l .before .before .before .args in
+    let j = l .loop .j in
+    running-row (l .loop .inv) (omega arith)
+    (rows-alike (squaredLow (a .depth)) bitOr (part-same 0 (a .a .now) (a .a-at) (a .a-stride) j (a .w)) (part-same 0 (a .b .now) (a .b-at) (a .b-stride) j (a .w))
+    (c .before .before .ssd-row .ensures))
+    refl refl
 
 returns : tie.Need-returns Inv-loop μ-loop
-returns c = running-end (c .before .loop .inv) (omega arith)
+returns c = running-end (c .before .loop .inv) (omega arith) (c .before .before .before .before .pre .0 .low)
 
 pub ssd-rows-spec : {M : Type 1} → statement M
 ssd-rows-spec =

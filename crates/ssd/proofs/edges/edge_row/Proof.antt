@@ -1,13 +1,8 @@
 -- `ssd::edges::edge_row` meets its contract. Assumes nothing.
-use mathlib.Core.Path.{sym, ap, ap₂, _∙_}
-use Prim.Native.Nat.{ℕ}
+use mathlib.Core.Path.{sym}
 use lib.Bits.{bitOr}
-use lib.IntN.{ℤ, pos, _+ℤ_}
-use lib.ListN.{getD}
-use mir.Facts.{toZ-ofZ}
-use Rattle.evc.specs.Planes.{edge}
-use Rattle.block_rows.proofs.Cells.{totalled-ext}
-use Rattle.block_rows.proofs.Line.{line-room, line-long, line-length, line-at}
+use Rattle.block_rows.proofs.Cells.{rows-alike}
+use Rattle.block_rows.proofs.Line.{line-room, line-long, line-length, line-same}
 use Rattle.ssd.specs.Squares.{squaredLow}
 use borrow.Author.Needs.{needs}
 use Rattle.ssd.proofs.edges.edge_row.Statement.{statement}
@@ -56,20 +51,11 @@ ssd-row-requires c κs =
 
 returns : tie.Need-returns
 returns c =
-    let s = c .before .before .before .before .before .before .before .before .before .before .before in
+    let t = c .before .before .before .before in
+    let s = t .before .before .before .before .before .before .before in
     let a = s .args in
-    let e = toZ-ofZ (s .fits .x) in
-    let F : ℕ → ℕ = λ i. getD (a .a .now) (edge (a .x +ℤ pos i)) 0 in
-    let G : ℕ → ℕ = λ i. getD (a .b .now) (edge (a .x +ℤ pos i)) 0 in
-    totalled-ext (λ i. squaredLow (a .depth) (F i) (G i)) (λ i. bitOr (F i) (G i)) (c .ssd-row .ensures)
-    (λ i p.
-    ap₂ (squaredLow (a .depth))
-    (line-at _ _ (s .pre .0) _ _ (c .before .before .before .before .before .before .before .edge-row .ensures) i p ∙ ap (λ (z : ℤ). getD (a .a .now) (edge (z +ℤ pos i)) 0) e)
-    (line-at _ _ (s .pre .0) _ _ (c .before .before .before .before .edge-row2 .ensures) i p ∙ ap (λ (z : ℤ). getD (a .b .now) (edge (z +ℤ pos i)) 0) e))
-    (λ i p.
-    ap₂ bitOr
-    (line-at _ _ (s .pre .0) _ _ (c .before .before .before .before .before .before .before .edge-row .ensures) i p ∙ ap (λ (z : ℤ). getD (a .a .now) (edge (z +ℤ pos i)) 0) e)
-    (line-at _ _ (s .pre .0) _ _ (c .before .before .before .before .edge-row2 .ensures) i p ∙ ap (λ (z : ℤ). getD (a .b .now) (edge (z +ℤ pos i)) 0) e))
+    rows-alike (squaredLow (a .depth)) bitOr (line-same _ _ (a .a .now) (s .pre .0) (s .fits .x) (t .before .before .before .edge-row .ensures))
+    (line-same _ _ (a .b .now) (s .pre .0) (s .fits .x) (t .edge-row2 .ensures)) (c .ssd-row .ensures)
 
 pub edge-row-spec : {M : Type 1} → statement M
 edge-row-spec =

@@ -1,29 +1,25 @@
 -- `ssd::edges::edge_rows` meets its contract. Assumes nothing.
-use mathlib.Core.Path.{_≡_, ap, ap₂, _∙_}
-use Prim.Native.Nat.{ℕ, _-_, _*_, _≤_, _<_}
+use mathlib.Core.Path.{refl}
+use Prim.Native.Nat.{_-_, _*_, _<_}
 use native.Mathlib.Omega.{arith}
 use lib.Bits.{bitOr}
-use lib.IntN.{ℤ, pos, _+ℤ_}
 use lib.ListN.{length}
 use mir.Syntax.{w16}
 use mir.Val.{toZ, ofZ}
-use mir.Facts.{toZ-ofZ}
 use Rattle.integers.specs.Sum.{sumN}
 use Rattle.integers.specs.Or.{orN}
-use Rattle.evc.specs.Planes.{edge}
-use Rattle.block_rows.specs.Totals.{Totalled, BlocksTotalled}
+use Rattle.block_rows.specs.Totals.{BlocksTotalled}
 use Rattle.block_rows.specs.Edges.{edgeCell}
-use Rattle.block_rows.proofs.Running.{Running, running-start, running-step, running-end, running-next}
-use Rattle.block_rows.proofs.Cells.{totalled-ext, row-most}
-use Rattle.block_rows.proofs.AtEdges.{edge-at, of-bits}
+use Rattle.block_rows.proofs.Running.{Running, running-start, running-row, running-end, running-next}
+use Rattle.block_rows.proofs.Cells.{rows-alike}
+use Rattle.block_rows.proofs.AtEdges.{row-starts, edge-same, of-bits}
 use Rattle.ssd.specs.Squares.{squaredLow}
-use Rattle.ssd.proofs.Squares.{squared-low-le}
 use Rattle.ssd.proofs.edges.edge_rows.Statement.{statement}
 use Rattle.ssd.proofs.edges.edge_rows.Tie as tie
 
 abbrev Inv-loop : tie.InvT-loop
 Inv-loop one stride1 two stride2 x y w h depth sum₀ any₀ j₀ sum any j =
-    Running h (λ j. sumN w (λ i. squaredLow depth (edgeCell one stride1 (toZ w16 x) (toZ w16 y) j i) (edgeCell two stride2 (toZ w16 x) (toZ w16 y) j i)))
+    Running (64 * 65535) h (λ j. sumN w (λ i. squaredLow depth (edgeCell one stride1 (toZ w16 x) (toZ w16 y) j i) (edgeCell two stride2 (toZ w16 x) (toZ w16 y) j i)))
     (λ j. orN w (λ i. bitOr (edgeCell one stride1 (toZ w16 x) (toZ w16 y) j i) (edgeCell two stride2 (toZ w16 x) (toZ w16 y) j i))) sum any j
 
 abbrev μ-loop : tie.MeasureT-loop
@@ -38,25 +34,12 @@ cast-row-start c = omega (arith, c .before .before .before .before .pre .0 .low)
 row-start-requires : tie.Need-row-start-requires Inv-loop μ-loop
 row-start-requires c κs = tt
 
--- where row j of each block starts, inside its plane
-starts :
-    (c : tie.After-row-start Inv-loop μ-loop) →
-    let s = c .before .before .before .before .before in c .row-start .result .row ≡ edge (s .args .y +ℤ pos (c .before .before .loop .j))
-starts c =
-    let s = c .before .before .before .before .before in
-    c .row-start .ensures .0 ∙ ap (λ (z : ℤ). edge (z +ℤ pos (c .before .before .loop .j))) (toZ-ofZ (s .fits .y))
-
+-- row j of each block starts inside its plane
 inside1 : (c : tie.After-row-start Inv-loop μ-loop) → let a = c .before .before .before .before .before .args in c .row-start .result .row * a .stride1 < length (a .one .now)
-inside1 c =
-    let s = c .before .before .before .before .before in
-    let e = ap (λ (n : ℕ). n * s .args .stride1) (starts c) in
-    omega (arith, e, s .pre .0 .reads (c .before .before .loop .j) 0 (c .before .loop-test .taken) (s .pre .0 .wide))
+inside1 c = let s = c .before .before .before .before .before in row-starts (s .pre .0) (s .fits .y) (c .before .loop-test .taken) (c .row-start .ensures .0)
 
 inside2 : (c : tie.After-row-start Inv-loop μ-loop) → let a = c .before .before .before .before .before .args in c .row-start .result .row * a .stride2 < length (a .two .now)
-inside2 c =
-    let s = c .before .before .before .before .before in
-    let e = ap (λ (n : ℕ). n * s .args .stride2) (starts c) in
-    omega (arith, e, s .pre .1 .0 .reads (c .before .before .loop .j) 0 (c .before .loop-test .taken) (s .pre .1 .0 .wide))
+inside2 c = let s = c .before .before .before .before .before in row-starts (s .pre .1 .0) (s .fits .y) (c .before .loop-test .taken) (c .row-start .ensures .0)
 
 mul-p : tie.Need-mul-p Inv-loop μ-loop
 mul-p c = omega (arith, inside1 c, c .before .before .before .before .before .good)
@@ -91,40 +74,10 @@ part-edge-row-end-2 c = omega arith
 edge-row-requires : tie.Need-edge-row-requires Inv-loop μ-loop
 edge-row-requires c κs = let s = c .before .before .before .before .before .before .before in (s .pre .0 .narrow, s .pre .1 .1)
 
--- what the rows told, said of the blocks
-module _ (c : tie.After-edge-row Inv-loop μ-loop) where
-  abbrev F : ℕ → ℕ → ℕ
-  F = let a = c .before .before .before .before .before .before .before .before .args in edgeCell (a .one .now) (a .stride1) (toZ w16 (ofZ w16 (a .x))) (toZ w16 (ofZ w16 (a .y)))
-
-  abbrev G : ℕ → ℕ → ℕ
-  G = let a = c .before .before .before .before .before .before .before .before .args in edgeCell (a .two .now) (a .stride2) (toZ w16 (ofZ w16 (a .x))) (toZ w16 (ofZ w16 (a .y)))
-
-  abbrev d : ℕ
-  d = c .before .before .before .before .before .before .before .before .args .depth
-
-  told :
-      let j = c .before .before .before .before .before .loop .j in
-      Totalled (c .before .before .before .before .before .before .before .before .args .w) (λ i. squaredLow d (F j i) (G j i)) (λ i. bitOr (F j i) (G j i)) (c .edge-row .result .sum) (c .edge-row .result .any)
-  told =
-      let a = c .before .before .before .before .before .before .before .before .args in
-      let j = c .before .before .before .before .before .loop .j in
-      let x = toZ w16 (ofZ w16 (a .x)) in
-      let y = toZ w16 (ofZ w16 (a .y)) in
-      let e = ap (λ (n : ℕ). n * a .stride1) (c .before .before .before .row-start .ensures .0) in
-      let f = ap (λ (n : ℕ). n * a .stride2) (c .before .before .before .row-start .ensures .0) in
-      totalled-ext (λ i. squaredLow d (F j i) (G j i)) (λ i. bitOr (F j i) (G j i)) (c .edge-row .ensures)
-      (λ i p. ap₂ (squaredLow d) (edge-at (a .one .now) (a .stride1) x y _ j i e) (edge-at (a .two .now) (a .stride2) x y _ j i f))
-      (λ i p. ap₂ bitOr (edge-at (a .one .now) (a .stride1) x y _ j i e) (edge-at (a .two .now) (a .stride2) x y _ j i f))
-
-  -- what a row adds at most
-  most : (j : ℕ) → sumN (c .before .before .before .before .before .before .before .before .args .w) (λ i. squaredLow d (F j i) (G j i)) ≤ 4194240
-  most j =
-      let s = c .before .before .before .before .before .before .before .before in
-      row-most (s .args .w) 65535 (λ i. squaredLow d (F j i) (G j i)) (s .pre .0 .narrow) (λ i. squared-low-le d (F j i) (G j i) (s .pre .1 .1 .0))
-
 add-sum : tie.Need-add-sum Inv-loop μ-loop
 add-sum c =
-    omega (arith, running-next 4194240 (c .before .before .before .before .before .before .loop .inv) (omega arith) (told (c .before) .total) (λ j h. most (c .before) j))
+    let l = c .before .before .before .before .before .before in
+    omega (arith, running-next (l .loop .inv) (omega arith) (l .before .before .before .pre .0 .low) (c .before .edge-row .ensures .most))
 
 add-j : tie.Need-add-j Inv-loop μ-loop
 add-j c = omega arith
@@ -132,17 +85,28 @@ add-j c = omega arith
 loop-less : tie.Need-loop-less Inv-loop μ-loop
 loop-less c = omega arith
 
+-- what the rows told, said of the blocks
 loop-again : tie.Need-loop-again Inv-loop μ-loop
 loop-again c =
-    running-step (c .before .before .before .before .before .before .before .loop .inv) (omega arith) (told (c .before .before) .total) (told (c .before .before) .marks)
+    let l = c .before .before .before .before .before .before .before in
+    let a = l .before .before .before .args in
+    let x = toZ w16 (ofZ w16 (a .x)) in
+    let y = toZ w16 (ofZ w16 (a .y)) in
+    let e = c .before .before .before .before .before .row-start .ensures .0 in
+    running-row (l .loop .inv) (omega arith)
+    (rows-alike (squaredLow (a .depth)) bitOr (edge-same (a .one .now) (a .stride1) x y (l .loop .j) e) (edge-same (a .two .now) (a .stride2) x y (l .loop .j) e)
+    (c .before .before .edge-row .ensures))
+    refl refl
 
 returns : tie.Need-returns Inv-loop μ-loop
 returns c =
     let s = c .before .before .before .before in
     let a = s .args in
     of-bits
-    (λ x y. BlocksTotalled (squaredLow (a .depth)) (a .w) (a .h) (edgeCell (a .one .now) (a .stride1) x y) (edgeCell (a .two .now) (a .stride2) x y) (c .before .loop .sum) (c .before .loop .any))
-    (s .fits .x) (s .fits .y) (running-end (c .before .loop .inv) (omega arith))
+    (λ x y.
+    BlocksTotalled (64 * (64 * 65535)) (squaredLow (a .depth)) bitOr (a .w) (a .h) (edgeCell (a .one .now) (a .stride1) x y) (edgeCell (a .two .now) (a .stride2) x y)
+    (c .before .loop .sum) (c .before .loop .any))
+    (s .fits .x) (s .fits .y) (running-end (c .before .loop .inv) (omega arith) (s .pre .0 .low))
 
 pub edge-rows-spec : {M : Type 1} → statement M
 edge-rows-spec =

@@ -11,14 +11,14 @@ use mir.Syntax.{w16}
 use Rattle.integers.proofs.Bits.{one-shl}
 use Rattle.ssd.specs.Squares.{squared, squaredLow}
 use Rattle.ssd.proofs.Squares.{cut, cut-small, cut-squared, squared-low-le}
-use Rattle.block_rows.proofs.Running.{Running, running-start, running-step, running-end}
+use Rattle.block_rows.proofs.Running.{Running, running-start, running-step, running-end, running-next}
 use borrow.Author.Needs.{needs}
 use Rattle.ssd.proofs.rows.ssd_row.Statement.{statement}
 use Rattle.ssd.proofs.rows.ssd_row.Tie as tie
 
 abbrev Inv-loop : tie.InvT-loop
 Inv-loop a b w depth mask shift sum₀ any₀ i₀ sum any i =
-    Running w (λ k. squaredLow depth (getD a k 0) (getD b k 0)) (λ k. bitOr (getD a k 0) (getD b k 0)) sum any i × (sum ≤ i * 65535)
+    Running 65535 w (λ k. squaredLow depth (getD a k 0) (getD b k 0)) (λ k. bitOr (getD a k 0) (getD b k 0)) sum any i
 
 abbrev μ-loop : tie.MeasureT-loop
 μ-loop a b w depth mask shift sum₀ any₀ i₀ sum any i = w - i
@@ -48,7 +48,7 @@ square-shift-requires : tie.Need-square-shift-requires Inv-loop μ-loop
 square-shift-requires c κs = tt
 
 loop-holds : tie.Need-loop-holds Inv-loop μ-loop
-loop-holds c = (running-start, omega arith)
+loop-holds c = running-start
 
 mul-p : tie.Need-mul-p Inv-loop μ-loop
 mul-p c = omega arith
@@ -100,7 +100,8 @@ most c =
     omega (arith, summand c, squared-low-le (depthOf c) (getD (rowA c) (at c) 0) (getD (rowB c) (at c) 0) (c .before .before .before .before .before .before .before .before .pre .1 .0))
 
 add-sum : tie.Need-add-sum Inv-loop μ-loop
-add-sum c = omega (arith, most c, c .before .before .before .before .loop .inv .1, c .before .before .before .before .before .before .before .before .pre .0 .small)
+add-sum c =
+    omega (arith, running-next (c .before .before .before .before .loop .inv) (omega arith) (c .before .before .before .before .before .before .before .before .pre .0 .small) (most c))
 
 add-i : tie.Need-add-i Inv-loop μ-loop
 add-i c = omega arith
@@ -109,15 +110,13 @@ loop-less : tie.Need-loop-less Inv-loop μ-loop
 loop-less c = omega arith
 
 loop-again : tie.Need-loop-again Inv-loop μ-loop
-loop-again c =
-    let l = c .before .before .before .before .loop in
-    (running-step (l .inv .0) (omega arith) (summand c) refl, omega (arith, most c, l .inv .1))
+loop-again c = running-step (c .before .before .before .before .loop .inv) (omega arith) (summand c) refl (most c)
 
 cast-all : tie.Need-cast-all Inv-loop μ-loop
 cast-all c = search needs
 
 returns : tie.Need-returns Inv-loop μ-loop
-returns c = running-end (c .before .loop .inv .0) (omega arith)
+returns c = running-end (c .before .loop .inv) (omega arith) (c .before .before .before .before .before .pre .0 .small)
 
 pub ssd-row-spec : {M : Type 1} → statement M
 ssd-row-spec =

@@ -15,7 +15,7 @@ use Rattle.plane_tests.specs.Blocks.{TwoBlocks, cell}
 use Rattle.plane_tests.proofs.Planes.{is-inside, rows-inside, plane-alike}
 use Rattle.plane_tests.proofs.Replies.{rest-alike}
 use Rattle.plane_tests.proofs.SmallSides.{logs-small, side-small, shifted, shifted-is}
-use Rattle.ssd.proofs.Ends.{ssd-alike, ssd-small, ssd-totalled}
+use Rattle.ssd.proofs.Ends.{ssd-alike, ssd-totalled}
 use Rattle.ssd.proofs.Logs.{ssd-size, ssd-depth, ssd-area, ssd-second, ssd-rest}
 use Rattle.ssd.proofs.ssd.evce_ssd_16b.Statement.{statement}
 use Rattle.ssd.proofs.ssd.evce_ssd_16b.Tie as tie
@@ -135,10 +135,7 @@ ssd-block-requires : tie.Need-ssd-block-requires
 ssd-block-requires c κs = (blocks c, outside-no 8 14 _ (deep (c .before .before .before .before)))
 
 end-requires : tie.Need-end-requires
-end-requires c κs =
-    let b = blocks (c .before) in
-    let d = outside-no 8 14 _ (deep (c .before .before .before .before .before)) in
-    (d .1, ssd-small _ _ _ _ _ (c .ssd-block .ensures) (d .0) (b .narrow) (b .low))
+end-requires c κs = (outside-no 8 14 _ (deep (c .before .before .before .before .before)) .1, omega (arith, c .ssd-block .ensures .most))
 
 returns-5 : tie.Need-returns-5
 returns-5 c =

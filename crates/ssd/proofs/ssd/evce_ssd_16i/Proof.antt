@@ -5,6 +5,7 @@ use Prim.Native.Nat.{ℕ, _*_, _-_, _^_}
 use native.Mathlib.Omega.{arith}
 use borrow.Author.Needs.{needs}
 use lib.Dec.{ltb}
+use lib.Bits.{bitOr}
 use lib.IntN.{pos}
 use lib.ListN.{length}
 use Rattle.evc.specs.Tests.{outside}
@@ -16,7 +17,7 @@ use Rattle.plane_tests.proofs.SmallSides.{logs-small, side-small, shifted, shif
 use Rattle.block_rows.specs.Totals.{BlocksTotalled}
 use Rattle.block_rows.specs.Edges.{edgeCell, EdgesIn}
 use Rattle.block_rows.proofs.AtEdges.{edges-in, edges-alike, as-bits, of-bits}
-use Rattle.ssd.proofs.Ends.{ssd-alike, ssd-small, ssd-totalled}
+use Rattle.ssd.proofs.Ends.{ssd-alike, ssd-totalled}
 use Rattle.ssd.specs.Squares.{squaredLow}
 use Rattle.ssd.proofs.Logs.{ssd-size, ssd-depth, ssd-area, ssd-second, ssd-rest}
 use Rattle.ssd.proofs.ssd.evce_ssd_16i.Statement.{statement}
@@ -167,23 +168,19 @@ total-requires c κs =
 told :
     (c : tie.After-total) →
     let a = c .before .before .before .before .before .before .before .before .before .before .before .args in
-    BlocksTotalled (squaredLow (a .depth)) (shifted (a .log2-w)) (shifted (a .log2-h)) (edgeCell (a .one .now) (a .stride1) (a .x) (a .y))
+    BlocksTotalled (64 * (64 * 65535)) (squaredLow (a .depth)) bitOr (shifted (a .log2-w)) (shifted (a .log2-h)) (edgeCell (a .one .now) (a .stride1) (a .x) (a .y))
     (edgeCell (a .two .now) (a .stride2) (a .x) (a .y)) (c .total .result .sum) (c .total .result .any)
 told c =
     let t = c .before .before .before .before .before .before .before .before .before .before .before in
     let a = t .args in
     of-bits
     (λ x y.
-    BlocksTotalled (squaredLow (a .depth)) (shifted (a .log2-w)) (shifted (a .log2-h)) (edgeCell (a .one .now) (a .stride1) x y)
+    BlocksTotalled (64 * (64 * 65535)) (squaredLow (a .depth)) bitOr (shifted (a .log2-w)) (shifted (a .log2-h)) (edgeCell (a .one .now) (a .stride1) x y)
     (edgeCell (a .two .now) (a .stride2) x y) (c .total .result .sum) (c .total .result .any))
     (t .fits .x) (t .fits .y) (c .total .ensures)
 
 end-requires : tie.Need-end-requires
-end-requires c κs =
-    let a = c .before .before .before .before .before .before .before .before .before .before .before .args in
-    let b = ready (c .before) .0 in
-    let d = outside-no 8 14 (a .depth) (deep (c .before .before .before .before .before)) in
-    (d .1, ssd-small (shifted (a .log2-w)) (shifted (a .log2-h)) (a .depth) (edgeCell (a .one .now) (a .stride1) (a .x) (a .y)) (edgeCell (a .two .now) (a .stride2) (a .x) (a .y)) (told c) (d .0) (b .narrow) (b .low))
+end-requires c κs = (outside-no 8 14 _ (deep (c .before .before .before .before .before)) .1, omega (arith, c .total .ensures .most))
 
 returns-5 : tie.Need-returns-5
 returns-5 c =
