@@ -1,5 +1,5 @@
 #!/usr/bin/env python3
-"""Writes the 64 by 64 transform table of the crate `table`: what the code stores, and the same numbers as its proofs read them; and the sums of
+"""Writes the 64 by 64 transform table of the crate `itx_table`: what the code stores, and the same numbers as its proofs read them; and the sums of
 its columns.
 
     tools/table.py            writes the files, in the layout of `rt fmt`
@@ -12,7 +12,7 @@ import math
 import sys
 from pathlib import Path
 
-CRATE = Path(__file__).resolve().parent.parent / "crates" / "table"
+CRATE = Path(__file__).resolve().parent.parent / "crates" / "itx_table"
 
 # C(1) .. C(63)
 MAGNITUDES = """
@@ -46,7 +46,7 @@ def code(rows):
 
 
 def proof(rows):
-    """proofs/Stored.antt: one row to a line."""
+    """proofs/Stored.antt: a row is four lines of 16 numbers."""
     yield "-- The 4,096 numbers that src/tm.rt stores, row after row. Written by tools/table.py. Assumes nothing."
     yield "use mathlib.Core.List.{List, [], _∷_}"
     yield "use lib.IntN.{ℤ, pos, negsuc}"
@@ -54,8 +54,9 @@ def proof(rows):
     yield "unfoldable pub stored : List ℤ"
     yield "stored ="
     for k, row in enumerate(rows):
-        line = " ∷ ".join(f"pos {z}" if z >= 0 else f"negsuc {-z - 1}" for z in row)
-        yield f"    {'∷ ' if k else ''}{line}{'' if k < 63 else ' ∷ []'}"
+        for n in range(0, 64, 16):
+            line = " ∷ ".join(f"pos {z}" if z >= 0 else f"negsuc {-z - 1}" for z in row[n : n + 16])
+            yield f"    {'∷ ' if k or n else ''}{line}{' ∷ []' if (k, n) == (63, 48) else ''}"
 
 
 def columns(rows):
@@ -65,7 +66,7 @@ def columns(rows):
     yield "// Written by tools/table.py; what they are is proved in proofs/ColumnSums.antt."
     yield "ghost use mathlib.Core.Path.{_≡_};"
     yield "ghost use Rattle.integers.specs.Lists.{tab};"
-    yield "ghost use Rattle.table.specs.Columns.{column};"
+    yield "ghost use Rattle.itx_table.specs.Columns.{column};"
     for size in (32, 64):
         yield ""
         yield f"pub fn columns{size}() -> [i32; {size}]"

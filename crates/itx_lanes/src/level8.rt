@@ -1,4 +1,4 @@
-// From size 8 to size 16, in all 16 lanes. Written by tools/levels.py.
+// From size 8 to size 16, in all 16 lanes. Written by tools/lanes.py.
 ghost use mathlib.Core.Path.{_≡_};
 ghost use Prim.Native.Nat.{_≤_};
 ghost use lib.ListN.{length};

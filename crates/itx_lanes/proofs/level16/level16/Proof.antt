@@ -1,4 +1,4 @@
--- `itx_lanes::level16::level16` meets its contract: pass after pass. Written by tools/levels.py.
+-- `itx_lanes::level16::level16` meets its contract: pass after pass. Written by tools/lanes.py.
 -- Assumes nothing.
 use mathlib.Core.Path.{refl, _∙_}
 use lib.Dec.{lit≤}
@@ -10,7 +10,14 @@ table-requires : tie.Need-table-requires
 table-requires c κs = tt
 
 rows16-0-requires : tie.Need-rows16-0-requires
-rows16-0-requires c κs = let s = c .before .before .before in (c .before .before .table .ensures, record { level = record { narrow = s .pre .0 .narrow; whole = refl; size = lit≤ tt; room = s .pre .1 }; part = λ j h. none (s .pre .0 .sums j h) })
+rows16-0-requires c κs =
+    let s = c .before .before .before in (
+      c .before .before .table .ensures,
+      record {
+        level = record { narrow = s .pre .0 .narrow; whole = refl; size = lit≤ tt; room = s .pre .1 };
+        part = λ j h. none (s .pre .0 .sums j h);
+      },
+    )
 
 same-length : tie.Need-same-length
 same-length c = c .before .rows16-0 .kept .1 .1 .0

@@ -1,4 +1,4 @@
--- `itx_lanes::level16::rows16_0` meets its contract: lane after lane. Written by tools/levels.py.
+-- `itx_lanes::level16::rows16_0` meets its contract: lane after lane. Written by tools/lanes.py.
 -- Assumes nothing.
 use mathlib.Core.Path.{refl, sym}
 use Prim.Native.Nat.{_-_}
@@ -15,6 +15,19 @@ Inv-loop t s e₀ j₀ e j = Passed (Places s 16 0) (Places s 16 16) e₀ e j
 abbrev μ-loop : tie.MeasureT-loop
 μ-loop t s e₀ j₀ e j = 16 - j
 
+-- where the inputs are picked, as each call sees it
+abbrev picked1 : tie.After-places-arg Inv-loop μ-loop → tie.After-pick Inv-loop μ-loop
+picked1 c = c .before .before .before
+
+abbrev picked2 : tie.After-places-arg2 Inv-loop μ-loop → tie.After-pick Inv-loop μ-loop
+picked2 c = picked1 (c .before .before .before)
+
+abbrev picked3 : tie.After-places-arg3 Inv-loop μ-loop → tie.After-pick Inv-loop μ-loop
+picked3 c = picked2 (c .before .before .before)
+
+abbrev picked4 : tie.After-places-arg4 Inv-loop μ-loop → tie.After-pick Inv-loop μ-loop
+picked4 c = picked3 (c .before .before .before)
+
 loop-holds : tie.Need-loop-holds Inv-loop μ-loop
 loop-holds c = passed-none (c .pre .1 .part)
 
@@ -28,16 +41,48 @@ slice-aggregate-x : tie.Need-slice-aggregate-x Inv-loop μ-loop
 slice-aggregate-x c = sym (c .before .before .pick .ensures .long)
 
 places-requires : tie.Need-places-requires Inv-loop μ-loop
-places-requires c κs = (record { table = c .before .before .before .before .before .before .before .pre .0; lane = next-lane (c .before .before .before .before .before .before .before .pre .1 .level) (c .before .before .before .before .before .before .loop .inv) (c .before .before .before .before .before .loop-test .taken); picks = c .before .before .before .pick .ensures }, (lit≤ tt, lit≤ tt))
+places-requires c κs =
+    let p = picked1 c in (
+      record {
+        table = p .before .before .before .before .pre .0;
+        lane = next-lane (p .before .before .before .before .pre .1 .level) (p .before .before .before .loop .inv) (p .before .before .loop-test .taken);
+        picks = p .pick .ensures;
+      },
+      (lit≤ tt, lit≤ tt),
+    )
 
 places-requires-2 : tie.Need-places-requires-2 Inv-loop μ-loop
-places-requires-2 c κs = (record { table = c .before .before .before .before .before .before .before .before .before .before .pre .0; lane = c .before .before .places .ensures .lane; picks = c .before .before .before .before .before .before .pick .ensures }, (lit≤ tt, lit≤ tt))
+places-requires-2 c κs =
+    let p = picked2 c in (
+      record {
+        table = p .before .before .before .before .pre .0;
+        lane = c .before .before .places .ensures .lane;
+        picks = p .pick .ensures;
+      },
+      (lit≤ tt, lit≤ tt),
+    )
 
 places-requires-3 : tie.Need-places-requires-3 Inv-loop μ-loop
-places-requires-3 c κs = (record { table = c .before .before .before .before .before .before .before .before .before .before .before .before .before .pre .0; lane = c .before .before .places2 .ensures .lane; picks = c .before .before .before .before .before .before .before .before .before .pick .ensures }, (lit≤ tt, lit≤ tt))
+places-requires-3 c κs =
+    let p = picked3 c in (
+      record {
+        table = p .before .before .before .before .pre .0;
+        lane = c .before .before .places2 .ensures .lane;
+        picks = p .pick .ensures;
+      },
+      (lit≤ tt, lit≤ tt),
+    )
 
 places-requires-4 : tie.Need-places-requires-4 Inv-loop μ-loop
-places-requires-4 c κs = (record { table = c .before .before .before .before .before .before .before .before .before .before .before .before .before .before .before .before .pre .0; lane = c .before .before .places3 .ensures .lane; picks = c .before .before .before .before .before .before .before .before .before .before .before .before .pick .ensures }, (lit≤ tt, lit≤ tt))
+places-requires-4 c κs =
+    let p = picked4 c in (
+      record {
+        table = p .before .before .before .before .pre .0;
+        lane = c .before .before .places3 .ensures .lane;
+        picks = p .pick .ensures;
+      },
+      (lit≤ tt, lit≤ tt),
+    )
 
 add-j : tie.Need-add-j Inv-loop μ-loop
 add-j c = omega arith
@@ -46,7 +91,18 @@ loop-less : tie.Need-loop-less Inv-loop μ-loop
 loop-less c = omega arith
 
 loop-again : tie.Need-loop-again Inv-loop μ-loop
-loop-again c = passed-more (c .before .before .before .before .before .before .before .before .before .before .before .before .before .before .before .before .before .loop .inv) (c .before .before .before .before .before .before .before .before .before .before .before .before .before .before .before .before .loop-test .taken) (kept-then (c .before .before .before .before .before .before .before .before .before .before .places .ensures .kept) (kept-then (c .before .before .before .before .before .before .before .places2 .ensures .kept) (kept-then (c .before .before .before .before .places3 .ensures .kept) (c .before .places4 .ensures .kept)))) (c .before .places4 .ensures .lane .part)
+loop-again c =
+    let c4 = c .before in
+    let c3 = c4 .before .before .before in
+    let c2 = c3 .before .before .before in
+    let c1 = c2 .before .before .before in
+    let p = picked1 (c1 .before) in
+    passed-more (p .before .before .before .loop .inv) (p .before .before .loop-test .taken)
+    (kept-then (c1 .places .ensures .kept)
+    (kept-then (c2 .places2 .ensures .kept)
+    (kept-then (c3 .places3 .ensures .kept)
+    (c4 .places4 .ensures .kept))))
+    (c4 .places4 .ensures .lane .part)
 
 same-length : tie.Need-same-length Inv-loop μ-loop
 same-length c = c .before .loop .inv .long

@@ -1,4 +1,4 @@
--- `itx_lanes::level32::level32` meets its contract: pass after pass. Written by tools/levels.py.
+-- `itx_lanes::level32::level32` meets its contract: pass after pass. Written by tools/lanes.py.
 -- Assumes nothing.
 use mathlib.Core.Path.{refl, _∙_}
 use lib.Dec.{lit≤}
@@ -10,7 +10,14 @@ table-requires : tie.Need-table-requires
 table-requires c κs = tt
 
 rows32-0-requires : tie.Need-rows32-0-requires
-rows32-0-requires c κs = let s = c .before .before .before in (c .before .before .table .ensures, record { level = record { narrow = s .pre .0 .narrow; whole = refl; size = lit≤ tt; room = s .pre .1 }; part = λ j h. none (s .pre .0 .sums j h) })
+rows32-0-requires c κs =
+    let s = c .before .before .before in (
+      c .before .before .table .ensures,
+      record {
+        level = record { narrow = s .pre .0 .narrow; whole = refl; size = lit≤ tt; room = s .pre .1 };
+        part = λ j h. none (s .pre .0 .sums j h);
+      },
+    )
 
 rows32-16-requires : tie.Need-rows32-16-requires
 rows32-16-requires c κs = (c .before .before .before .before .before .table .ensures, c .before .before .rows32-0 .ensures)

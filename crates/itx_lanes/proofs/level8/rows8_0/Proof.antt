@@ -1,4 +1,4 @@
--- `itx_lanes::level8::rows8_0` meets its contract: lane after lane. Written by tools/levels.py.
+-- `itx_lanes::level8::rows8_0` meets its contract: lane after lane. Written by tools/lanes.py.
 -- Assumes nothing.
 use mathlib.Core.Path.{refl, sym}
 use Prim.Native.Nat.{_-_}
@@ -14,6 +14,10 @@ Inv-loop t s e₀ j₀ e j = Passed (Places s 8 0) (Places s 8 8) e₀ e j
 abbrev μ-loop : tie.MeasureT-loop
 μ-loop t s e₀ j₀ e j = 16 - j
 
+-- where the inputs are picked, as each call sees it
+abbrev picked1 : tie.After-places-arg Inv-loop μ-loop → tie.After-pick Inv-loop μ-loop
+picked1 c = c .before .before .before
+
 loop-holds : tie.Need-loop-holds Inv-loop μ-loop
 loop-holds c = passed-none (c .pre .1 .part)
 
@@ -27,7 +31,15 @@ slice-aggregate-x : tie.Need-slice-aggregate-x Inv-loop μ-loop
 slice-aggregate-x c = sym (c .before .before .pick .ensures .long)
 
 places-requires : tie.Need-places-requires Inv-loop μ-loop
-places-requires c κs = (record { table = c .before .before .before .before .before .before .before .pre .0; lane = next-lane (c .before .before .before .before .before .before .before .pre .1 .level) (c .before .before .before .before .before .before .loop .inv) (c .before .before .before .before .before .loop-test .taken); picks = c .before .before .before .pick .ensures }, (lit≤ tt, lit≤ tt))
+places-requires c κs =
+    let p = picked1 c in (
+      record {
+        table = p .before .before .before .before .pre .0;
+        lane = next-lane (p .before .before .before .before .pre .1 .level) (p .before .before .before .loop .inv) (p .before .before .loop-test .taken);
+        picks = p .pick .ensures;
+      },
+      (lit≤ tt, lit≤ tt),
+    )
 
 add-j : tie.Need-add-j Inv-loop μ-loop
 add-j c = omega arith
@@ -36,7 +48,12 @@ loop-less : tie.Need-loop-less Inv-loop μ-loop
 loop-less c = omega arith
 
 loop-again : tie.Need-loop-again Inv-loop μ-loop
-loop-again c = passed-more (c .before .before .before .before .before .before .before .before .loop .inv) (c .before .before .before .before .before .before .before .loop-test .taken) (c .before .places .ensures .kept) (c .before .places .ensures .lane .part)
+loop-again c =
+    let c1 = c .before in
+    let p = picked1 (c1 .before) in
+    passed-more (p .before .before .before .loop .inv) (p .before .before .loop-test .taken)
+    (c1 .places .ensures .kept)
+    (c1 .places .ensures .lane .part)
 
 same-length : tie.Need-same-length Inv-loop μ-loop
 same-length c = c .before .loop .inv .long

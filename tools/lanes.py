@@ -1,14 +1,14 @@
 #!/usr/bin/env python3
-"""Writes the levels of the crate `levels`, code and proofs: at most 16 places a function, and so few a call that a compiler writes their loop out: it
+"""Writes the levels of the crate `itx_lanes`, code and proofs: at most 16 places a function, and so few a call that a compiler writes their loop out: it
 then sees which numbers of the table it reads, and needs no table at run time.
 
-    tools/levels.py            writes the files, in the layout of `rt fmt`
-    tools/levels.py --check    writes nothing; fails where a file differs from what would be written
+    tools/lanes.py            writes the files, in the layout of `rt fmt`
+    tools/lanes.py --check    writes nothing; fails where a file differs from what would be written
 """
 import sys
 from pathlib import Path
 
-CRATE = Path(__file__).resolve().parent.parent / "crates" / "levels"
+CRATE = Path(__file__).resolve().parent.parent / "crates" / "itx_lanes"
 SIZES = (8, 16, 32)
 # places a function, and a call
 MANY = {8: 8, 16: 16, 32: 16}
@@ -17,12 +17,12 @@ FEW = {8: 8, 16: 4, 32: 2}
 
 def code(m):
     out = [
-        f"// From size {m} to size {2 * m}, in all 16 lanes. Written by tools/levels.py.",
+        f"// From size {m} to size {2 * m}, in all 16 lanes. Written by tools/lanes.py.",
         "ghost use mathlib.Core.Path.{_≡_};",
         "ghost use Prim.Native.Nat.{_≤_};",
         "ghost use lib.ListN.{length};",
-        "ghost use Rattle.table.specs.Flat.{flat};",
-        "ghost use Rattle.levels.specs.Steps.{All, Sized};",
+        "ghost use Rattle.itx_table.specs.Flat.{flat};",
+        "ghost use Rattle.itx_lanes.specs.Steps.{All, Sized};",
         "use super::lanes::pick;",
         "use super::lanes::places;",
         "",
@@ -46,7 +46,7 @@ def code(m):
         f"    requires {{ ⌜ Sized (now s) (now e) {m} × ({2 * m * 16} ≤ length (now e)) ⌝ }}",
         f"    ensures {{ λ _. ⌜ Sized (now (s .entry)) (now (e .exit)) {2 * m} ⌝ }}",
         "{",
-        "    let all = table::table();",
+        "    let all = itx_table::table();",
         "    let t = &all;",
     ]
     out += [f"    rows{m}_{g}(t, s, e);" for g in range(0, m, MANY[m])]
@@ -56,11 +56,11 @@ def code(m):
 
 def proof(module, name, does, uses, body, needs, loop=""):
     """A proof file: what the function does, its imports, definitions and needs (name, its argument's rest, answer), and its loop, if any."""
-    here = f"Rattle.levels.proofs.{module}.{name}"
-    out = [f"-- `levels::{module}::{name}` meets its contract: {does} Written by tools/levels.py.", "-- Assumes nothing.", *uses]
+    here = f"Rattle.itx_lanes.proofs.{module}.{name}"
+    out = [f"-- `itx_lanes::{module}::{name}` meets its contract: {does} Written by tools/lanes.py.", "-- Assumes nothing.", *uses]
     out += [f"use {here}.Statement.{{statement}}", f"use {here}.Tie as tie", "", *body]
     for need, rest, answer in needs:
-        out += [f"{need} : tie.Need-{need}{loop}", f"{need} c{rest} = {answer}", ""]
+        out += [f"{need} : tie.Need-{need}{loop}", f"{need} c{rest} = {answer}".replace("= \n", "=\n"), ""]
     spec = name.replace("_", "-") + "-spec"
     out += [f"pub {spec} : {{M : Type 1}} → statement M", f"{spec} =", "    tie.close", "    (tie.spec"]
     out += [f"    {name}" for name in loop.split()] + [f"    {need}" for need, _, _ in needs]
@@ -70,6 +70,11 @@ def proof(module, name, does, uses, body, needs, loop=""):
 
 def back(k):
     return " .before" * k
+
+
+def broken(lines):
+    """An answer of several lines."""
+    return "\n    " + "\n    ".join(lines)
 
 
 def nth(name, k):
@@ -90,8 +95,8 @@ def rows(m, g):
         "use Prim.Native.Nat.{_-_}",
         "use native.Mathlib.Omega.{arith}",
         "use lib.Dec.{lit<, lit≤}",
-        "use Rattle.levels.proofs.AsLine.{kept-then}" if calls > 1 else "",
-        "use Rattle.levels.proofs.Passes.{Places, Passed, passed-none, passed-more, next-lane, passed-all}",
+        "use Rattle.itx_lanes.proofs.AsLine.{kept-then}" if calls > 1 else "",
+        "use Rattle.itx_lanes.proofs.Passes.{Places, Passed, passed-none, passed-more, next-lane, passed-all}",
     ]
     body = [
         "abbrev Inv-loop : tie.InvT-loop",
@@ -100,30 +105,46 @@ def rows(m, g):
         "abbrev μ-loop : tie.MeasureT-loop",
         "μ-loop t s e₀ j₀ e j = 16 - j",
         "",
+        "-- where the inputs are picked, as each call sees it",
     ]
+    for i in range(calls):
+        body += [
+            f"abbrev picked{i + 1} : tie.After-{called('places-arg', i + 1)} Inv-loop μ-loop → tie.After-pick Inv-loop μ-loop",
+            f"picked{i + 1} c = " + (f"picked{i} (c{back(3)})" if i else f"c{back(3)}"),
+            "",
+        ]
     needs = [
         ("loop-holds", "", "passed-none (c .pre .1 .part)"),
         ("slice-aggregate-pick", "", "refl"),
         ("pick-requires", " κs", "(refl, record { some = lit< tt; rows = lit≤ tt; column = lit< tt; among = c .before .loop-test .taken })"),
         ("slice-aggregate-x", "", f"sym (c{back(2)} .pick .ensures .long)"),
     ]
-    # from the i-th call's loan back to the loop's test, and to `pick`
-    test = lambda i: 5 + 3 * i
-    picked = lambda i: 3 + 3 * i
     for i in range(calls):
-        k = test(i)
-        lane = f"c{back(2)} .{called('places', i)} .ensures .lane" if i else f"next-lane (c{back(k + 2)} .pre .1 .level) (c{back(k + 1)} .loop .inv) (c{back(k)} .loop-test .taken)"
-        given = f"record {{ table = c{back(k + 2)} .pre .0; lane = {lane}; picks = c{back(picked(i))} .pick .ensures }}"
-        needs.append((nth("places-requires", i + 1), " κs", f"({given}, (lit≤ tt, lit≤ tt))"))
-    put = lambda i: f"c{back(3 * (calls - 1 - i) + 1)} .{called('places', i + 1)} .ensures"
-    kept = f"{put(calls - 1)} .kept"
-    for i in reversed(range(calls - 1)):
-        kept = f"kept-then ({put(i)} .kept) ({kept})"
-    end = test(calls - 1) + 2
+        start = "p .before .before .before .before .pre"
+        lane = f"c{back(2)} .{called('places', i)} .ensures .lane" if i else f"next-lane ({start} .1 .level) (p{back(3)} .loop .inv) (p{back(2)} .loop-test .taken)"
+        lines = [
+            f"let p = picked{i + 1} c in (",
+            "  record {",
+            f"    table = {start} .0;",
+            f"    lane = {lane};",
+            "    picks = p .pick .ensures;",
+            "  },",
+            "  (lit≤ tt, lit≤ tt),",
+            ")",
+        ]
+        needs.append((nth("places-requires", i + 1), " κs", broken(lines)))
+    # what each call leaves, last to first
+    lets = []
+    for i in reversed(range(calls)):
+        lets.append(f"let c{i + 1} = " + ("c .before in" if i == calls - 1 else f"c{i + 2}{back(3)} in"))
+    chain = [f"c{i + 1} .{called('places', i + 1)} .ensures .kept" for i in range(calls)]
+    again = lets + ["let p = picked1 (c1 .before) in", f"passed-more (p{back(3)} .loop .inv) (p{back(2)} .loop-test .taken)"]
+    again += [f"(kept-then ({one})" for one in chain[:-1]]
+    again += [f"({chain[-1]})" + ")" * (calls - 1), f"(c{calls} .{called('places', calls)} .ensures .lane .part)"]
     needs += [
         ("add-j", "", "omega arith"),
         ("loop-less", "", "omega arith"),
-        ("loop-again", "", f"passed-more (c{back(end + 1)} .loop .inv) (c{back(end)} .loop-test .taken) ({kept}) ({put(calls - 1)} .lane .part)"),
+        ("loop-again", "", broken(again)),
         ("same-length", "", "c .before .loop .inv .long"),
         ("returns", "", f"passed-all (c{back(2)} .pre .1 .level) (c .before .loop .inv) (c .loop-test .left)"),
     ]
@@ -135,14 +156,25 @@ def level(m):
     uses = [
         "use mathlib.Core.Path.{refl, _∙_}",
         "use lib.Dec.{lit≤}",
-        "use Rattle.halving.proofs.Step.{none, all}",
+        "use Rattle.itx_halving.proofs.Step.{none, all}",
     ]
     calls = [f"rows{m}-{g}" for g in range(0, m, MANY[m])]
     needs = [("table-requires", " κs", "tt")]
     for i, call in enumerate(calls):
         table = f"c{back(2 + 3 * i)} .table .ensures"
-        part = f"c .before .before .{calls[i - 1]} .ensures" if i else "record { level = record { narrow = s .pre .0 .narrow; whole = refl; size = lit≤ tt; room = s .pre .1 }; part = λ j h. none (s .pre .0 .sums j h) }"
-        needs.append((f"{call}-requires", " κs", ("" if i else f"let s = c{back(3)} in ") + f"({table}, {part})"))
+        if i:
+            answer = f"({table}, c .before .before .{calls[i - 1]} .ensures)"
+        else:
+            answer = broken([
+                f"let s = c{back(3)} in (",
+                f"  {table},",
+                "  record {",
+                "    level = record { narrow = s .pre .0 .narrow; whole = refl; size = lit≤ tt; room = s .pre .1 };",
+                "    part = λ j h. none (s .pre .0 .sums j h);",
+                "  },",
+                ")",
+            ])
+        needs.append((f"{call}-requires", " κs", answer))
     # the length of e, the third of what a pass is given
     long = lambda i: f"c{back(3 * (len(calls) - 1 - i) + 1)} .{calls[i]} .kept .1 .1 .0"
     needs.append(("same-length", "", " ∙ ".join(long(i) for i in reversed(range(len(calls))))))
