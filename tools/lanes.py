@@ -31,15 +31,15 @@ def code(m):
         out += [
             f"// Places {g} to {g + MANY[m] - 1} and their mirrors.",
             f"fn rows{m}_{g}(t: &[i8; 4096], s: &[i16; 1024], e: &mut [i32])",
-            f"    requires {{ ⌜ (now t ≡ flat) × All (now s) (now e) {m} {g} ⌝ }}",
-            f"    ensures {{ λ _. ⌜ All (now (s .entry)) (now (e .exit)) {m} {g + MANY[m]} ⌝ }}",
+            f"    requires {{ ⌜ (now t ≡ flat) × All (now s) (now e) {m} {g} {64 // m} ⌝ }}",
+            f"    ensures {{ λ _. ⌜ All (now (s .entry)) (now (e .exit)) {m} {g + MANY[m]} {32 // m} ⌝ }}",
             "{",
             "    for j in 0..16 {",
             f"        let mut picked = [0i32; {m}];",
             f"        pick(s, &mut picked, {m}, {32 // m}, j);",
             "        let x = &picked[..];",
         ]
-        out += [f"        places(t, s, x, e, {m}, {n}, {n + FEW[m]}, j);" for n in range(g, g + MANY[m], FEW[m])]
+        out += [f"        places(t, x, e, {m}, {n}, {n + FEW[m]}, j);" for n in range(g, g + MANY[m], FEW[m])]
         out += ["    }", "}", ""]
     out += [
         f"pub(crate) fn level{m}(s: &[i16; 1024], e: &mut [i32])",
@@ -95,52 +95,50 @@ def rows(m, g):
         "use Prim.Native.Nat.{_-_}",
         "use native.Mathlib.Omega.{arith}",
         "use lib.Dec.{lit<, lit≤}",
-        "use Rattle.itx_lanes.proofs.AsLine.{kept-then}" if calls > 1 else "",
-        "use Rattle.itx_lanes.proofs.Passes.{Places, Passed, passed-none, passed-more, next-lane, passed-all}",
+        "use Rattle.itx_lanes.proofs.Steps.{then}" if calls > 1 else "",
+        "use Rattle.itx_lanes.proofs.Passes.{Places, Passed, passed-none, next-lane, passed-lane, passed-all}",
     ]
     body = [
         "abbrev Inv-loop : tie.InvT-loop",
-        f"Inv-loop t s e₀ j₀ e j = Passed (Places s {m} {g}) (Places s {m} {g + MANY[m]}) e₀ e j",
+        f"Inv-loop t s e₀ j₀ e j = Passed (Places s {m} {g} {64 // m}) (Places s {m} {g + MANY[m]} {32 // m}) e₀ e j",
         "",
         "abbrev μ-loop : tie.MeasureT-loop",
         "μ-loop t s e₀ j₀ e j = 16 - j",
         "",
-        "-- where the inputs are picked, as each call sees it",
+        "-- where the inputs are picked, as the first call sees it",
+        "abbrev picked : tie.After-places-arg Inv-loop μ-loop → tie.After-pick Inv-loop μ-loop",
+        "picked c = c .before .before .before",
+        "",
     ]
-    for i in range(calls):
-        body += [
-            f"abbrev picked{i + 1} : tie.After-{called('places-arg', i + 1)} Inv-loop μ-loop → tie.After-pick Inv-loop μ-loop",
-            f"picked{i + 1} c = " + (f"picked{i} (c{back(3)})" if i else f"c{back(3)}"),
-            "",
-        ]
     needs = [
-        ("loop-holds", "", "passed-none (c .pre .1 .part)"),
+        ("loop-holds", "", "passed-none (λ i h. record { part = c .pre .1 .part i h; narrow = c .pre .1 .narrow i h })"),
         ("slice-aggregate-pick", "", "refl"),
-        ("pick-requires", " κs", "(refl, record { some = lit< tt; rows = lit≤ tt; column = lit< tt; among = c .before .loop-test .taken })"),
+        ("pick-requires", " κs", "(refl, record { some = lit< tt; rows = lit≤ tt }, c .before .loop-test .taken)"),
         ("slice-aggregate-x", "", f"sym (c{back(2)} .pick .ensures .long)"),
     ]
-    for i in range(calls):
-        start = "p .before .before .before .before .pre"
-        lane = f"c{back(2)} .{called('places', i)} .ensures .lane" if i else f"next-lane ({start} .1 .level) (p{back(3)} .loop .inv) (p{back(2)} .loop-test .taken)"
-        lines = [
-            f"let p = picked{i + 1} c in (",
-            "  record {",
-            f"    table = {start} .0;",
-            f"    lane = {lane};",
-            "    picks = p .pick .ensures;",
-            "  },",
-            "  (lit≤ tt, lit≤ tt),",
-            ")",
-        ]
-        needs.append((nth("places-requires", i + 1), " κs", broken(lines)))
+    given = "record { lane = next-lane (l .before .pre .1 .level) (l .loop .inv) (p .before .before .loop-test .taken); picks = p .pick .ensures }"
+    first = [
+        "let p = picked c in",
+        "let l = p .before .before .before in (",
+        "  record {",
+        "    table = l .before .pre .0;",
+        "    block = l .before .args .s .now;",
+        f"    given = {given};",
+        "  },",
+        "  (lit≤ tt, lit≤ tt),",
+        ")",
+    ]
+    needs.append(("places-requires", " κs", broken(first)))
+    for i in range(1, calls):
+        needs.append((nth("places-requires", i + 1), " κs", f"(c .before .before .{called('places', i)} .ensures .ready, (lit≤ tt, lit≤ tt))"))
     # what each call leaves, last to first
-    lets = []
+    again = []
     for i in reversed(range(calls)):
-        lets.append(f"let c{i + 1} = " + ("c .before in" if i == calls - 1 else f"c{i + 2}{back(3)} in"))
-    chain = [f"c{i + 1} .{called('places', i + 1)} .ensures .kept" for i in range(calls)]
-    again = lets + ["let p = picked1 (c1 .before) in", f"passed-more (p{back(3)} .loop .inv) (p{back(2)} .loop-test .taken)"]
-    again += [f"(kept-then ({one})" for one in chain[:-1]]
-    again += [f"({chain[-1]})" + ")" * (calls - 1), f"(c{calls} .{called('places', calls)} .ensures .lane .part)"]
+        again.append(f"let c{i + 1} = " + ("c .before in" if i == calls - 1 else f"c{i + 2}{back(3)} in"))
+    chain = [f"c{i + 1} .{called('places', i + 1)} .ensures" for i in range(calls)]
+    again += ["let p = picked (c1 .before) in", "let l = p .before .before .before in"]
+    again += ["passed-lane (l .before .pre .1 .level) (l .loop .inv) (p .before .before .loop-test .taken) (p .pick .ensures)"]
+    again += [f"(then ({one})" for one in chain[:-1]] + [f"({chain[-1]})" + ")" * (calls - 1)]
     needs += [
         ("add-j", "", "omega arith"),
         ("loop-less", "", "omega arith"),
@@ -158,19 +156,22 @@ def level(m):
         "use lib.Dec.{lit≤}",
         "use Rattle.itx_halving.proofs.Step.{none, all}",
     ]
+    if MANY[m] < m:
+        uses.append("use Rattle.itx_lanes.proofs.Passes.{once-more}")
     calls = [f"rows{m}-{g}" for g in range(0, m, MANY[m])]
     needs = [("table-requires", " κs", "tt")]
     for i, call in enumerate(calls):
         table = f"c{back(2 + 3 * i)} .table .ensures"
         if i:
-            answer = f"({table}, c .before .before .{calls[i - 1]} .ensures)"
+            answer = f"({table}, once-more (c .before .before .{calls[i - 1]} .ensures))"
         else:
             answer = broken([
                 f"let s = c{back(3)} in (",
                 f"  {table},",
                 "  record {",
-                "    level = record { narrow = s .pre .0 .narrow; whole = refl; size = lit≤ tt; room = s .pre .1 };",
+                "    level = record { whole = refl; size = lit≤ tt; room = s .pre .1 };",
                 "    part = λ j h. none (s .pre .0 .sums j h);",
+                "    narrow = s .pre .0 .narrow;",
                 "  },",
                 ")",
             ])
@@ -179,7 +180,7 @@ def level(m):
     long = lambda i: f"c{back(3 * (len(calls) - 1 - i) + 1)} .{calls[i]} .kept .1 .1 .0"
     needs.append(("same-length", "", " ∙ ".join(long(i) for i in reversed(range(len(calls))))))
     last = f"c .before .{calls[-1]} .ensures"
-    needs.append(("returns", "", f"record {{ narrow = {last} .level .narrow; sums = λ j h. all ({last} .part j h) }}"))
+    needs.append(("returns", "", f"record {{ sums = λ j h. all ({last} .part j h); narrow = {last} .narrow }}"))
     return proof(f"level{m}", f"level{m}", "pass after pass.", uses, [], needs)
 
 

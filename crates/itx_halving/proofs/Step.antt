@@ -10,6 +10,7 @@ use lib.ListN.{length, getD, set, length-set}
 use lib.Seq.{getD-set-same, getD-set-other}
 use lib.IntN.{ℤ, pos, _+ℤ_, _-ℤ_, _*ℤ_, +ℤ-idl}
 use Rattle.integers.specs.Sum.{sum}
+use Rattle.itx_table.specs.Mirror.{Mirrored}
 use Rattle.itx_halving.specs.Line.{line, rows, dot, odd, Inputs, Table, Level, Sums, Part}
 use Rattle.itx_halving.proofs.Halving.{split, mirrored}
 
@@ -37,38 +38,38 @@ pub level-at : {t x : List ℤ} {w N : ℕ} → Table t w N → Inputs x N → (
 level-at g v m q e h k = record { table = rw e g; inputs = rw e v; size = h; stride = k }
 
 -- a place of the level is a place of the buffer
-pub place : {t x : List ℤ} {w m q : ℕ} → Level t w x m q → (n : ℕ) → n < m + m → n < (m + m) * q
-place {m = m} {q = q} g n h = omega (arith, mul-le-mul-left {m = 1} {n = q} (m + m) (g .stride))
+pub place : (m q : ℕ) → 0 < q → (n : ℕ) → n < m + m → n < (m + m) * q
+place m q s n h = omega (arith, mul-le-mul-left {m = 1} {n = q} (m + m) s)
 
 -- one place and its mirror more: the sum and the difference of the halves
-module _ {t x e : List ℤ} {w m q : ℕ} (g : Level t w x m q) (n : ℕ) (h : n < m) (p : Part e (rows t w) q m n x) (a b : ℤ) where
+module _ {x e : List ℤ} {T : ℕ → ℕ → ℤ} {m q : ℕ} (g : Mirrored ((m + m) * q) T) (size : 2 ≤ m) (stride : 0 < q) (n : ℕ) (h : n < m) (p : Part e T q m n x) (a b : ℤ) where
   abbrev after : List ℤ
   after = set (set e n a) (m + m - suc n) b
 
   at-n : getD after n (pos 0) ≡ a
   at-n =
       getD-set-other (set e n a) (m + m - suc n) n b (pos 0) (λ r. omega arith)
-      ∙ getD-set-same e n a (pos 0) (omega (arith, place g n (omega arith), p .long))
+      ∙ getD-set-same e n a (pos 0) (omega (arith, place m q stride n (omega arith), p .long))
 
   at-mirror : getD after (m + m - suc n) (pos 0) ≡ b
-  at-mirror = getD-set-same (set e n a) (m + m - suc n) b (pos 0) (omega (arith, place g (m + m - suc n) (omega arith), p .long, length-set e n a))
+  at-mirror = getD-set-same (set e n a) (m + m - suc n) b (pos 0) (omega (arith, place m q stride (m + m - suc n) (omega arith), p .long, length-set e n a))
 
   other : (j : ℕ) → j ≢ n → j ≢ m + m - suc n → getD after j (pos 0) ≡ getD e j (pos 0)
   other j f k = getD-set-other (set e n a) (m + m - suc n) j b (pos 0) k ∙ getD-set-other e n j a (pos 0) f
 
-  module _ (ea : a ≡ dot (rows t w) (q + q) m n (line x) +ℤ odd (rows t w) q m n (line x)) (eb : b ≡ dot (rows t w) (q + q) m n (line x) -ℤ odd (rows t w) q m n (line x)) where
-    low-more : (j : ℕ) → j < n + 1 → Dec (j ≡ n) → getD after j (pos 0) ≡ dot (rows t w) q (m + m) j (line x)
+  module _ (ea : a ≡ dot T (q + q) m n (line x) +ℤ odd T q m n (line x)) (eb : b ≡ dot T (q + q) m n (line x) -ℤ odd T q m n (line x)) where
+    low-more : (j : ℕ) → j < n + 1 → Dec (j ≡ n) → getD after j (pos 0) ≡ dot T q (m + m) j (line x)
     low-more j l (yes r) =
-        subst (λ (i : ℕ). getD after i (pos 0) ≡ dot (rows t w) q (m + m) i (line x)) (sym r) (at-n ∙ ea ∙ sym (split (rows t w) q m (line x) n))
+        subst (λ (i : ℕ). getD after i (pos 0) ≡ dot T q (m + m) i (line x)) (sym r) (at-n ∙ ea ∙ sym (split T q m (line x) n))
     low-more j l (no f) = other j f (λ r. omega arith) ∙ p .low j (omega arith)
 
-    high-more : (j : ℕ) → j < n + 1 → Dec (j ≡ n) → getD after (m + m - suc j) (pos 0) ≡ dot (rows t w) q (m + m) (m + m - suc j) (line x)
+    high-more : (j : ℕ) → j < n + 1 → Dec (j ≡ n) → getD after (m + m - suc j) (pos 0) ≡ dot T q (m + m) (m + m - suc j) (line x)
     high-more j l (yes r) =
-        subst (λ (i : ℕ). getD after (m + m - suc i) (pos 0) ≡ dot (rows t w) q (m + m) (m + m - suc i) (line x)) (sym r)
-        (at-mirror ∙ eb ∙ sym (mirrored (rows t w) q m (line x) (g .table .mirrored) refl (g .size) n h))
+        subst (λ (i : ℕ). getD after (m + m - suc i) (pos 0) ≡ dot T q (m + m) (m + m - suc i) (line x)) (sym r)
+        (at-mirror ∙ eb ∙ sym (mirrored T q m (line x) g refl size n h))
     high-more j l (no f) = other (m + m - suc j) (λ r. omega arith) (λ r. f (omega arith)) ∙ p .high j (omega arith)
 
-    pub more : Part after (rows t w) q m (n + 1) x
+    pub more : Part after T q m (n + 1) x
     more =
         record {
           long = length-set (set e n a) (m + m - suc n) b ∙ length-set e n a ∙ p .long;
@@ -90,7 +91,10 @@ module _ (t x e : List ℤ) (w q : ℕ) (s : 0 < q) (l : length e ≡ q + q) (a 
   pair = set (set e 0 a) 1 b
 
   -- at the code's places of the table
-  pub started : a ≡ getD t 0 (pos 0) *ℤ line x 0 +ℤ getD t (q * w) (pos 0) *ℤ line x q → b ≡ getD t 1 (pos 0) *ℤ line x 0 +ℤ getD t (q * w + 1) (pos 0) *ℤ line x q → Sums pair (rows t w) q 2 x
+  pub started :
+      a ≡ getD t 0 (pos 0) *ℤ line x 0 +ℤ getD t (q * w) (pos 0) *ℤ line x q →
+      b ≡ getD t 1 (pos 0) *ℤ line x 0 +ℤ getD t (q * w + 1) (pos 0) *ℤ line x q →
+      Sums pair (rows t w) q 2 x
   started ea eb = record { long = length-set (set e 0 a) 1 b ∙ length-set e 0 a ∙ l ∙ omega arith; at = at }
     where
       at : (n : ℕ) → n < 2 → getD pair n (pos 0) ≡ dot (rows t w) q 2 n (line x)

@@ -1,23 +1,20 @@
 // What a level does in one lane: inputs are picked, products added, two places written. Document 01, "The two stages".
-// Where a parameter is not read (`s`, `j`), the contract speaks of it; a compiler drops it.
 ghost use mathlib.Core.Path.{_≡_};
-ghost use Prim.Native.Nat.{suc, _+_, _*_, _≤_};
+ghost use Prim.Native.Nat.{suc, _+_, _*_, _<_, _≤_};
 ghost use lib.ListN.{length};
-ghost use lib.IntN.{pos};
-ghost use Rattle.itx_halving.specs.Line.{line};
-ghost use Rattle.itx_lanes.specs.Steps.{laneList, half, Within64, More, Picks, Given, OddFound, Moved};
+ghost use Rattle.itx_lanes.specs.Steps.{terms, Rows, Input, Picks, Terms, Ready, Halves, crossed, Stepped};
 
 // The input of lane j in the row at the k-th odd multiple of q.
 fn input(s: &[i16; 1024], q: usize, k: usize, j: usize) -> i32
-    requires { ⌜ Within64 q (k + 1) 0 j ⌝ }
-    ensures { λ r. ⌜ r ≡ line (laneList (now (s .entry)) j) (suc (k + k) * q) ⌝ }
+    requires { ⌜ Rows q (k + 1) × (j < 16) ⌝ }
+    ensures { λ r. ⌜ Input (now (s .entry)) (suc (k + k) * q) j r ⌝ }
 {
     s[(2 * k + 1) * q * 16 + j] as i32
 }
 
 // All the odd inputs of size 2m.
 pub(crate) fn pick(s: &[i16; 1024], x: &mut [i32], m: usize, q: usize, j: usize)
-    requires { ⌜ (length (now x) ≡ m) × Within64 q m 0 j ⌝ }
+    requires { ⌜ (length (now x) ≡ m) × Rows q m × (j < 16) ⌝ }
     ensures { λ _. ⌜ Picks (now (x .exit)) (now (s .entry)) q m j ⌝ }
 {
     for k in 0..m {
@@ -26,38 +23,29 @@ pub(crate) fn pick(s: &[i16; 1024], x: &mut [i32], m: usize, q: usize, j: usize)
 }
 
 // One term more of the odd half at place n.
-fn one(
-    t: &[i8; 4096],
-    s: &[i16; 1024],
-    x: &[i32],
-    z: i32,
-    q: usize,
-    k: usize,
-    n: usize,
-    j: usize,
-) -> i32
-    requires { ⌜ More (now t) (now s) (now x) z q k 1 n j ⌝ }
-    ensures { λ r. ⌜ r ≡ half (now (s .entry)) j q (k + 1) n ⌝ }
+fn one(t: &[i8; 4096], x: &[i32], z: i32, q: usize, k: usize, n: usize) -> i32
+    requires { ⌜ Terms (now t) (now x) q n × (k < length (now x)) × (z ≡ terms (now x) q k n) ⌝ }
+    ensures { λ r. ⌜ r ≡ terms (now (x .entry)) q (k + 1) n ⌝ }
 {
     z + (t[(2 * k + 1) * q * 64 + n] as i32) * x[k]
 }
 
 // The odd half at place n.
-fn odd(t: &[i8; 4096], s: &[i16; 1024], x: &[i32], m: usize, q: usize, n: usize, j: usize) -> i32
-    requires { ⌜ More (now t) (now s) (now x) (pos 0) q 0 m n j ⌝ }
-    ensures { λ r. ⌜ r ≡ half (now (s .entry)) j q m n ⌝ }
+fn odd(t: &[i8; 4096], x: &[i32], m: usize, q: usize, n: usize) -> i32
+    requires { ⌜ Terms (now t) (now x) q n × (length (now x) ≡ m) ⌝ }
+    ensures { λ r. ⌜ r ≡ terms (now (x .entry)) q m n ⌝ }
 {
     let mut z: i32 = 0;
     for k in 0..m {
-        z = one(t, s, x, z, q, k, n, j);
+        z = one(t, x, z, q, k, n);
     }
     z
 }
 
 // The halving at place n and its mirror: the sum and the difference of the halves.
-fn put(s: &[i16; 1024], e: &mut [i32], m: usize, n: usize, j: usize, z: i32)
-    requires { ⌜ OddFound (now s) (now e) m n j z ⌝ }
-    ensures { λ _. ⌜ Moved (now (e .entry)) (now (s .entry)) (now (e .exit)) m (n + 1) j ⌝ }
+fn put(e: &mut [i32], m: usize, n: usize, j: usize, z: i32)
+    requires { ⌜ Halves (now e) m n j z ⌝ }
+    ensures { λ _. ⌜ now (e .exit) ≡ crossed (now (e .entry)) m n j z ⌝ }
 {
     let v = e[n * 16 + j];
     e[n * 16 + j] = v + z;
@@ -68,7 +56,6 @@ fn put(s: &[i16; 1024], e: &mut [i32], m: usize, n: usize, j: usize, z: i32)
 // then knows which numbers of the table it reads, and needs no table at run time.
 pub(crate) fn places(
     t: &[i8; 4096],
-    s: &[i16; 1024],
     x: &[i32],
     e: &mut [i32],
     m: usize,
@@ -76,12 +63,12 @@ pub(crate) fn places(
     b: usize,
     j: usize,
 )
-    requires { ⌜ Given (now t) (now s) (now x) (now e) m a j × ((a ≤ b) × (b ≤ m)) ⌝ }
-    ensures { λ _. ⌜ Moved (now (e .entry)) (now (s .entry)) (now (e .exit)) m b j ⌝ }
+    requires { ⌜ Ready (now t) (now x) (now e) m a j × ((a ≤ b) × (b ≤ m)) ⌝ }
+    ensures { λ _. ⌜ Stepped (now (t .entry)) (now (x .entry)) (now (e .entry)) (now (e .exit)) m a b j ⌝ }
 {
     let q = 32 / m;
     for n in a..b {
-        let z = odd(t, s, x, m, q, n, j);
-        put(s, e, m, n, j, z);
+        let z = odd(t, x, m, q, n);
+        put(e, m, n, j, z);
     }
 }

@@ -9,17 +9,17 @@ use super::lanes::places;
 
 // Places 0 to 15 and their mirrors.
 fn rows16_0(t: &[i8; 4096], s: &[i16; 1024], e: &mut [i32])
-    requires { ⌜ (now t ≡ flat) × All (now s) (now e) 16 0 ⌝ }
-    ensures { λ _. ⌜ All (now (s .entry)) (now (e .exit)) 16 16 ⌝ }
+    requires { ⌜ (now t ≡ flat) × All (now s) (now e) 16 0 4 ⌝ }
+    ensures { λ _. ⌜ All (now (s .entry)) (now (e .exit)) 16 16 2 ⌝ }
 {
     for j in 0..16 {
         let mut picked = [0i32; 16];
         pick(s, &mut picked, 16, 2, j);
         let x = &picked[..];
-        places(t, s, x, e, 16, 0, 4, j);
-        places(t, s, x, e, 16, 4, 8, j);
-        places(t, s, x, e, 16, 8, 12, j);
-        places(t, s, x, e, 16, 12, 16, j);
+        places(t, x, e, 16, 0, 4, j);
+        places(t, x, e, 16, 4, 8, j);
+        places(t, x, e, 16, 8, 12, j);
+        places(t, x, e, 16, 12, 16, j);
     }
 }
 

@@ -9,14 +9,14 @@ use super::lanes::places;
 
 // Places 0 to 7 and their mirrors.
 fn rows8_0(t: &[i8; 4096], s: &[i16; 1024], e: &mut [i32])
-    requires { ⌜ (now t ≡ flat) × All (now s) (now e) 8 0 ⌝ }
-    ensures { λ _. ⌜ All (now (s .entry)) (now (e .exit)) 8 8 ⌝ }
+    requires { ⌜ (now t ≡ flat) × All (now s) (now e) 8 0 8 ⌝ }
+    ensures { λ _. ⌜ All (now (s .entry)) (now (e .exit)) 8 8 4 ⌝ }
 {
     for j in 0..16 {
         let mut picked = [0i32; 8];
         pick(s, &mut picked, 8, 4, j);
         let x = &picked[..];
-        places(t, s, x, e, 8, 0, 8, j);
+        places(t, x, e, 8, 0, 8, j);
     }
 }
 

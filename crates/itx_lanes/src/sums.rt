@@ -3,26 +3,15 @@
 ghost use mathlib.Core.Path.{_≡_};
 ghost use Rattle.integers.specs.Lists.{tab};
 ghost use Rattle.itx_lanes.specs.Lanes.{laneSum};
-ghost use Rattle.itx_lanes.specs.Steps.{Narrow};
 use super::base::base;
 use super::level8::level8;
 use super::level16::level16;
 use super::level32::level32;
 
-// Each number of the block has 16 bits: what reading it tells. Nothing is kept of what is read, and a compiler removes the loop.
-fn narrow(s: &[i16; 1024])
-    ensures { λ _. ⌜ Narrow (now (s .entry)) ⌝ }
-{
-    for i in 0..1024 {
-        let v = s[i];
-    }
-}
-
 // The sums of size 16, 32 and 64. Place n of lane j stands at n·16+j; input k stands in row k·4, k·2 and k.
 pub fn sums16(s: &[i16; 1024], e: &mut [i32; 256])
     ensures { λ _. ⌜ now (e .exit) ≡ tab 256 (laneSum 16 (now (s .entry))) ⌝ }
 {
-    narrow(s);
     base(s, e);
     level8(s, e);
 }
@@ -30,7 +19,6 @@ pub fn sums16(s: &[i16; 1024], e: &mut [i32; 256])
 pub fn sums32(s: &[i16; 1024], e: &mut [i32; 512])
     ensures { λ _. ⌜ now (e .exit) ≡ tab 512 (laneSum 32 (now (s .entry))) ⌝ }
 {
-    narrow(s);
     base(s, e);
     level8(s, e);
     level16(s, e);
@@ -39,7 +27,6 @@ pub fn sums32(s: &[i16; 1024], e: &mut [i32; 512])
 pub fn sums64(s: &[i16; 1024], e: &mut [i32; 1024])
     ensures { λ _. ⌜ now (e .exit) ≡ tab 1024 (laneSum 64 (now (s .entry))) ⌝ }
 {
-    narrow(s);
     base(s, e);
     level8(s, e);
     level16(s, e);

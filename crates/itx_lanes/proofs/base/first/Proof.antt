@@ -7,10 +7,10 @@ use native.Mathlib.Omega.{arith}
 use lib.ListN.{getD}
 use lib.IntN.{ℤ, pos}
 use mir.Syntax.{w8, w16, w32}
-use Rattle.integers.proofs.Bound.{Within}
+use Rattle.integers.proofs.Bound.{Within, within-sfits}
 use Rattle.integers.proofs.Expr.{Ex, var, add, mul, loc, bare, Known, arg, small, env, fit, reads}
 use Rattle.itx_lanes.proofs.Bounds.{entry-within, top-within}
-use Rattle.itx_lanes.proofs.Steps.{two-terms}
+use Rattle.itx_lanes.proofs.Steps.{two-terms, two-narrow}
 use Rattle.itx_lanes.proofs.base.first.Statement.{statement}
 use Rattle.itx_lanes.proofs.base.first.Tie as tie
 
@@ -19,13 +19,13 @@ module _ (s : tie.Start) where
   abbrev upper : Known
   upper =
       small w8 (getD (s .args .t .now) (s .args .n) (pos 0)) 90
-      (subst (λ (l : List ℤ). Within 90 (getD l (s .args .n) (pos 0))) (sym (s .pre .0)) (top-within (s .args .n) (s .pre .2)))
+      (subst (λ (l : List ℤ). Within 90 (getD l (s .args .n) (pos 0))) (sym (s .pre .0)) (top-within (s .args .n) (s .pre .1)))
       tt
 
   abbrev lower : Known
   lower =
       small w8 (getD (s .args .t .now) (2048 + s .args .n) (pos 0)) 90
-      (subst (λ (l : List ℤ). Within 90 (getD l (2048 + s .args .n) (pos 0))) (sym (s .pre .0)) (entry-within 32 (s .args .n) (omega arith) (s .pre .2)))
+      (subst (λ (l : List ℤ). Within 90 (getD l (2048 + s .args .n) (pos 0))) (sym (s .pre .0)) (entry-within 32 (s .args .n) (omega arith) (s .pre .1)))
       tt
 
 -- and the two inputs
@@ -47,16 +47,16 @@ abbrev other : Ex
 other = loc w32 (mul (loc w32 (var 2)) (loc w32 (var 3)))
 
 element-copy-out-result : tie.Need-element-copy-out-result
-element-copy-out-result c = omega (arith, c .pre .2)
+element-copy-out-result c = omega (arith, c .pre .1)
 
 cast-result : tie.Need-cast-result
 cast-result c = fit (env (upper (c .before) ∷ [])) w32 (var 0) tt
 
 mul-result : tie.Need-mul-result
-mul-result c = omega (arith, c .before .pre .3)
+mul-result c = omega (arith, c .before .pre .2)
 
 element-copy-out-result-2 : tie.Need-element-copy-out-result-2
-element-copy-out-result-2 c = omega (arith, c .before .pre .3)
+element-copy-out-result-2 c = omega (arith, c .before .pre .2)
 
 cast-result-2 : tie.Need-cast-result-2
 cast-result-2 c = fit (env (arg w16 (getD (c .before .before .args .s .now) (c .before .before .args .j) (pos 0)) (sfits-of (c .result2 .given)) ∷ [])) w32 (var 0) tt
@@ -67,7 +67,7 @@ mul-result-2 c =
     (bare one) tt
 
 add-result : tie.Need-add-result
-add-result c = omega (arith, c .before .before .pre .2)
+add-result c = omega (arith, c .before .before .pre .1)
 
 element-copy-out-result-3 : tie.Need-element-copy-out-result-3
 element-copy-out-result-3 c = omega (arith, c .before .before .pre .2)
@@ -76,13 +76,13 @@ cast-result-3 : tie.Need-cast-result-3
 cast-result-3 c = fit (env (lower (c .before .before .before) ∷ [])) w32 (var 0) tt
 
 add-result-2 : tie.Need-add-result-2
-add-result-2 c = omega (arith, c .before .before .before .pre .3)
+add-result-2 c = omega (arith, c .before .before .before .pre .2)
 
 mul-result-3 : tie.Need-mul-result-3
-mul-result-3 c = omega (arith, c .before .before .before .pre .3)
+mul-result-3 c = omega (arith, c .before .before .before .pre .2)
 
 element-copy-out-result-4 : tie.Need-element-copy-out-result-4
-element-copy-out-result-4 c = omega (arith, c .before .before .before .pre .3)
+element-copy-out-result-4 c = omega (arith, c .before .before .before .pre .2)
 
 cast-result-4 : tie.Need-cast-result-4
 cast-result-4 c = fit (known c) w32 (var 3) tt
@@ -96,7 +96,12 @@ add-result-3 c = fit (known c) w32 (add one other) tt
 returns : tie.Need-returns
 returns c =
     let s = c .before .before .before .before in
-    reads (known c) (loc w32 (add one other)) tt ∙ two-terms (s .args .t .now) (s .args .s .now) (s .args .n) (s .args .j) (s .pre .0)
+    record {
+      is = reads (known c) (loc w32 (add one other)) tt ∙ two-terms (s .args .t .now) (s .args .s .now) (s .args .n) (s .args .j) (s .pre .0);
+      narrow =
+          two-narrow (within-sfits {w = w16} {z = getD (s .args .s .now) (s .args .j) (pos 0)} (sfits-of (c .before .before .result2 .given)) .bound)
+          (within-sfits {w = w16} {z = getD (s .args .s .now) (512 + s .args .j) (pos 0)} (sfits-of (c .result4 .given)) .bound);
+    }
 
 pub first-spec : {M : Type 1} → statement M
 first-spec =

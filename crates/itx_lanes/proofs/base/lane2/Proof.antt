@@ -11,25 +11,25 @@ use Rattle.itx_lanes.proofs.base.lane2.Statement.{statement}
 use Rattle.itx_lanes.proofs.base.lane2.Tie as tie
 
 first-requires : tie.Need-first-requires
-first-requires c κs = (c .pre .0, c .pre .1, lit< tt, c .pre .3)
+first-requires c κs = (c .pre .0, lit< tt, c .pre .2)
 
 mul-e : tie.Need-mul-e
-mul-e c = omega (arith, c .before .pre .3)
+mul-e c = omega (arith, c .before .pre .2)
 
 slice-set-from-e : tie.Need-slice-set-from-e
-slice-set-from-e c = omega (arith, c .before .pre .2, c .before .pre .3)
+slice-set-from-e c = omega (arith, c .before .pre .1, c .before .pre .2)
 
 first-requires-2 : tie.Need-first-requires-2
-first-requires-2 c κs = (c .before .pre .0, c .before .pre .1, lit< tt, c .before .pre .3)
+first-requires-2 c κs = (c .before .pre .0, lit< tt, c .before .pre .2)
 
 add-t6 : tie.Need-add-t6
-add-t6 c = omega (arith, c .before .before .pre .3)
+add-t6 c = omega (arith, c .before .before .pre .2)
 
 mul-t8 : tie.Need-mul-t8
-mul-t8 c = omega (arith, c .before .before .pre .3)
+mul-t8 c = omega (arith, c .before .before .pre .2)
 
 slice-set-from-e-2 : tie.Need-slice-set-from-e-2
-slice-set-from-e-2 c = simp length-set (omega (arith, c .before .before .pre .2, c .before .before .pre .3))
+slice-set-from-e-2 c = simp length-set (omega (arith, c .before .before .pre .1, c .before .before .pre .2))
 
 same-length : tie.Need-same-length
 same-length c = simp length-set
@@ -37,7 +37,8 @@ same-length c = simp length-set
 returns : tie.Need-returns
 returns c =
     let s = c .before .before in
-    begun _ _ _ (s .pre .1) (s .pre .2) (s .pre .3) _ _ (back w32 _ (c .before .first .ok) ∙ c .before .first .ensures) (back w32 _ (c .first2 .ok) ∙ c .first2 .ensures)
+    begun _ _ _ (c .first2 .ensures .narrow) (s .pre .1) (s .pre .2) _ _ (back w32 _ (c .before .first .ok) ∙ c .before .first .ensures .is)
+    (back w32 _ (c .first2 .ok) ∙ c .first2 .ensures .is)
 
 pub lane2-spec : {M : Type 1} → statement M
 lane2-spec =

@@ -7,8 +7,7 @@ use lib.ListN.{getD, length-set}
 use lib.IntN.{pos}
 use mir.Syntax.{w32}
 use Rattle.integers.proofs.Expr.{var, add, sub, loc, Known, small, env, fit, reads}
-use Rattle.itx_lanes.specs.Steps.{OddFound}
-use Rattle.itx_lanes.proofs.Steps.{size-most, even-small, odd-small, moved}
+use Rattle.itx_lanes.specs.Steps.{crossed}
 use Rattle.itx_lanes.proofs.lanes.put.Statement.{statement}
 use Rattle.itx_lanes.proofs.lanes.put.Tie as tie
 
@@ -16,8 +15,8 @@ use Rattle.itx_lanes.proofs.lanes.put.Tie as tie
 abbrev known : tie.Start → ℕ → Known
 known s =
     env (
-    small w32 (getD (s .args .e .now) (s .args .n * 16 + s .args .j) (pos 0)) 94371840 (even-small (s .pre)) tt
-    ∷ small w32 (s .args .z) 94371840 (odd-small (s .pre)) tt
+    small w32 (getD (s .args .e .now) (s .args .n * 16 + s .args .j) (pos 0)) 94371840 (record { bound = s .pre .even }) tt
+    ∷ small w32 (s .args .z) 94371840 (record { bound = s .pre .odd }) tt
     ∷ []
     )
 
@@ -52,33 +51,33 @@ slice-set-from-e c = search needs
 sub-e : tie.Need-sub-e
 sub-e c = search (fit (known (c .before)) w32 (sub (var 0) (var 1)) tt, fit (known (c .before)) w32 (sub (var 1) (var 0)) tt)
 
-mul-t9 : tie.Need-mul-t9
-mul-t9 c = search needs
+mul-t8 : tie.Need-mul-t8
+mul-t8 c = search needs
 
-sub-t10 : tie.Need-sub-t10
-sub-t10 c = search needs
+sub-t9 : tie.Need-sub-t9
+sub-t9 c = search needs
 
-sub-t8 : tie.Need-sub-t8
-sub-t8 c = search needs
+sub-t7 : tie.Need-sub-t7
+sub-t7 c = search needs
 
-mul-t14 : tie.Need-mul-t14
-mul-t14 c = search needs
+mul-t13 : tie.Need-mul-t13
+mul-t13 c = search needs
 
-add-t15 : tie.Need-add-t15
-add-t15 c = search needs
+add-t14 : tie.Need-add-t14
+add-t14 c = search needs
 
-mul-t16 : tie.Need-mul-t16
-mul-t16 c = search needs
+mul-t15 : tie.Need-mul-t15
+mul-t15 c = search needs
 
 slice-set-from-e-2 : tie.Need-slice-set-from-e-2
-slice-set-from-e-2 c = simp length-set (omega (arith, c .before .pre .place, c .before .pre .lane .among, c .before .pre .lane .level .room))
+slice-set-from-e-2 c = simp length-set (omega (arith, c .before .pre .place, c .before .pre .among, c .before .pre .room))
 
 same-length : tie.Need-same-length
 same-length c = search needs
 
 returns : tie.Need-returns
-returns c =
-    moved (c .before .pre) _ _ (reads (known (c .before)) (loc w32 (add (var 0) (var 1))) tt) (reads (known (c .before)) (loc w32 (sub (var 0) (var 1))) tt)
+unfolding crossed
+returns c = rw (reads (known (c .before)) (loc w32 (add (var 0) (var 1))) tt, reads (known (c .before)) (loc w32 (sub (var 0) (var 1))) tt)
 
 pub put-spec : {M : Type 1} → statement M
 put-spec =
@@ -94,12 +93,12 @@ put-spec =
     mul-e-2
     slice-set-from-e
     sub-e
-    mul-t9
-    sub-t10
-    sub-t8
-    mul-t14
-    add-t15
-    mul-t16
+    mul-t8
+    sub-t9
+    sub-t7
+    mul-t13
+    add-t14
+    mul-t15
     slice-set-from-e-2
     same-length
     returns)

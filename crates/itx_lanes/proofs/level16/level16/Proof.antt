@@ -14,8 +14,9 @@ rows16-0-requires c κs =
     let s = c .before .before .before in (
       c .before .before .table .ensures,
       record {
-        level = record { narrow = s .pre .0 .narrow; whole = refl; size = lit≤ tt; room = s .pre .1 };
+        level = record { whole = refl; size = lit≤ tt; room = s .pre .1 };
         part = λ j h. none (s .pre .0 .sums j h);
+        narrow = s .pre .0 .narrow;
       },
     )
 
@@ -23,7 +24,7 @@ same-length : tie.Need-same-length
 same-length c = c .before .rows16-0 .kept .1 .1 .0
 
 returns : tie.Need-returns
-returns c = record { narrow = c .before .rows16-0 .ensures .level .narrow; sums = λ j h. all (c .before .rows16-0 .ensures .part j h) }
+returns c = record { sums = λ j h. all (c .before .rows16-0 .ensures .part j h); narrow = c .before .rows16-0 .ensures .narrow }
 
 pub level16-spec : {M : Type 1} → statement M
 level16-spec =

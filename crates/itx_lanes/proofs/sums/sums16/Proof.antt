@@ -7,9 +7,6 @@ use Rattle.itx_lanes.proofs.Passes.{sums-are}
 use Rattle.itx_lanes.proofs.sums.sums16.Statement.{statement}
 use Rattle.itx_lanes.proofs.sums.sums16.Tie as tie
 
-narrow-requires : tie.Need-narrow-requires
-narrow-requires c κs = tt
-
 base-requires : tie.Need-base-requires
 base-requires c κs = search needs
 
@@ -20,4 +17,4 @@ returns : tie.Need-returns
 returns c = sums-are 16 refl (lit< tt) (lit≤ tt) _ _ (search needs) (c .level8 .ensures)
 
 pub sums16-spec : {M : Type 1} → statement M
-sums16-spec = tie.close (tie.spec narrow-requires base-requires level8-requires returns)
+sums16-spec = tie.close (tie.spec base-requires level8-requires returns)

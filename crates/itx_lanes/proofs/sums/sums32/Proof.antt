@@ -7,9 +7,6 @@ use Rattle.itx_lanes.proofs.Passes.{sums-are}
 use Rattle.itx_lanes.proofs.sums.sums32.Statement.{statement}
 use Rattle.itx_lanes.proofs.sums.sums32.Tie as tie
 
-narrow-requires : tie.Need-narrow-requires
-narrow-requires c κs = tt
-
 base-requires : tie.Need-base-requires
 base-requires c κs = search needs
 
@@ -23,4 +20,4 @@ returns : tie.Need-returns
 returns c = sums-are 32 refl (lit< tt) (lit≤ tt) _ _ (search needs) (c .level16 .ensures)
 
 pub sums32-spec : {M : Type 1} → statement M
-sums32-spec = tie.close (tie.spec narrow-requires base-requires level8-requires level16-requires returns)
+sums32-spec = tie.close (tie.spec base-requires level8-requires level16-requires returns)

@@ -17,7 +17,7 @@ use Rattle.itx_lines.proofs.line.step.Tie as tie
 
 -- a place of the level is one of the buffer
 inside : (s : tie.Start) (i : ℕ) → i < s .args .m + s .args .m → i < length (s .args .e .now)
-inside s i h = omega (arith, place (s .pre .0 .0) i h, s .pre .1 .long)
+inside s i h = omega (arith, place (s .args .m) (s .args .q) (s .pre .0 .0 .stride) i h, s .pre .1 .long)
 
 module _ (c : tie.After-v) where
   abbrev s : tie.Start
@@ -98,7 +98,7 @@ returns c =
     let m = s c .args .m in
     let i : 2 * m - 1 - s c .args .n ≡ m + m - suc (s c .args .n) = omega arith in
     rw i
-    (more (g c) (s c .args .n) (s c .pre .0 .1) (s c .pre .1) _ _
+    (more (g c .table .mirrored) (g c .size) (g c .stride) (s c .args .n) (s c .pre .0 .1) (s c .pre .1) _ _
     (reads (known c) (loc w64 (add (var 0) (var 1))) tt ∙ ap₂ _+ℤ_ (v-is c) (o-is c))
     (reads (known c) (loc w64 (sub (var 0) (var 1))) tt ∙ ap₂ _-ℤ_ (v-is c) (o-is c)))
 
