@@ -18,7 +18,7 @@ use Rattle.integers.specs.Sum.{ofZ+}
 use Rattle.integers.proofs.Sum.{sum-ext}
 use Rattle.evc.specs.Stages.{product, rounding}
 use Rattle.itx_halving.specs.Line.{line, Inputs, Sums}
-use Rattle.itx_halving.specs.Lines.{Gathered, Amount, Next, LineRoom, StageRoom, Lined}
+use Rattle.itx_halving.specs.Lines.{Gathered, Amount, Next, StageRoom, Lined}
 use Rattle.itx_halving.proofs.Halving.{whole}
 
 -- place k·l + j of n·l places
@@ -29,7 +29,13 @@ place k l j n H hk hj h = omega (arith, suc-mul k l, mul-le-mul-right {m = suc k
 pub gathered-none : {x src : List ℤ} {n l j : ℕ} → length x ≡ n → Gathered x src n 0 l j
 gathered-none e = record { long = e; at = λ k h. absurd (not-suc-le-zero h); small = λ k h. absurd (not-suc-le-zero h) }
 
-pub gathered-more : {x src : List ℤ} {n k l j : ℕ} (v : ℤ) → Gathered x src n k l j → k < n → v ≡ getD src (k * l + j) (pos 0) → natAbs v ≤ 2147483648 → Gathered (set x k v) src n (k + 1) l j
+pub gathered-more :
+    {x src : List ℤ} {n k l j : ℕ} (v : ℤ) →
+    Gathered x src n k l j →
+    k < n →
+    v ≡ getD src (k * l + j) (pos 0) →
+    natAbs v ≤ 2147483648 →
+    Gathered (set x k v) src n (k + 1) l j
 gathered-more {x} {src} {n} {k} {l} {j} v g h e b =
     record {
       long = length-set x k v ∙ g .long;
@@ -83,24 +89,32 @@ module _ (f : ℤ → ℤ) (T : ℕ → ℕ → ℤ) (N l j : ℕ) (src : List �
   pub lined : {d₀ d e x : List ℤ} → Gathered x src N N l j → Sums e T 1 N x → Next d₀ d (j * N) N (λ k. f (getD e k (pos 0))) → Lined left d₀ d N j
   lined g s n = next-ext n (stored g s)
 
--- the room of line j, where there is room for all lines
-pub room-of : {src d₀ : List ℤ} (d : List ℤ) (n l j : ℕ) → length d ≡ length d₀ → j < l → StageRoom src d₀ n l → LineRoom src d n l j
-room-of d n l j e h r = record { among = h; src-room = r .src-room; dst-room = omega (arith, e, r .dst-room, suc-mul j n, mul-le-mul-right {m = suc j} {n = l} n h, mul-comm l n) }
+-- ---- line after line: of l lines of n places j are stored, and the output has room for all
+pub record Upto (G : ℕ → ℤ) (n l : ℕ) (d₀ d : List ℤ) (j : ℕ) : Type 0 where
+  pub room : n * l ≤ length d₀
+  pub most : j ≤ l
+  pub long : length d ≡ length d₀
+  pub is : d ≡ written (j * n) G d₀
 
--- line after line
-pub lines-none : (G : ℕ → ℤ) (d : List ℤ) (n : ℕ) → d ≡ written (0 * n) G d
-lines-none G d n = rw (zero-mul n) (written-none G d)
+pub upto-none : {G : ℕ → ℤ} {n l : ℕ} {d₀ : List ℤ} → n * l ≤ length d₀ → Upto G n l d₀ d₀ 0
+upto-none {G} {n} {l} {d₀} h = record { room = h; most = omega arith; long = refl; is = rw (zero-mul n) (written-none G d₀) }
 
-pub lines-more : (G : ℕ → ℤ) (d₀ : List ℤ) {d d′ : List ℤ} (n l j : ℕ) → j < l → n * l ≤ length d₀ → d ≡ written (j * n) G d₀ → Lined G d d′ n j → d′ ≡ written ((j + 1) * n) G d₀
-lines-more G d₀ {d} {d′} n l j h r e s =
-    let m : (j + 1) * n ≡ j * n + n = omega arith in
-    rw m (s .after G d₀ (omega (arith, suc-mul j n, mul-le-mul-right {m = suc j} {n = l} n h, mul-comm l n)) e (λ k p. refl))
+module _ {G : ℕ → ℤ} {n l : ℕ} {d₀ d : List ℤ} {j : ℕ} (p : Upto G n l d₀ d j) where
+  next-room : j < l → j * n + n ≤ length d₀
+  next-room h = omega (arith, p .room, suc-mul j n, mul-le-mul-right {m = suc j} {n = l} n h, mul-comm l n)
 
-pub lines-length : (G : ℕ → ℤ) (d₀ : List ℤ) {d : List ℤ} (n l j : ℕ) → j ≤ l → n * l ≤ length d₀ → d ≡ written (j * n) G d₀ → length d ≡ length d₀
-lines-length G d₀ n l j h r e = ap length e ∙ written-length (j * n) G d₀ (omega (arith, mul-le-mul-right {m = j} {n = l} n h, mul-comm l n))
+  pub upto-room : j < l → j * n + n ≤ length d
+  upto-room h = omega (arith, next-room h, p .long)
 
-pub lines-all : (G : ℕ → ℤ) (d₀ : List ℤ) {d : List ℤ} (n l j : ℕ) → j ≡ l → d ≡ written (j * n) G d₀ → d ≡ written (n * l) G d₀
-lines-all G d₀ {d} n l j h e = written-count (j * n) (n * l) G d₀ d (ap (λ (i : ℕ). i * n) h ∙ mul-comm l n) e
+  pub upto-more : {d′ : List ℤ} → j < l → Lined G d d′ n j → Upto G n l d₀ d′ (j + 1)
+  upto-more h s =
+      let m : (j + 1) * n ≡ j * n + n = omega arith in
+      record { room = p .room; most = omega arith; long = s .long ∙ p .long; is = rw m (s .after G d₀ (next-room h) (p .is) (λ k r. refl)) }
+
+  pub upto-all : l ≤ j → d ≡ written (n * l) G d₀
+  upto-all h =
+      let e : j ≡ l = omega (arith, p .most) in
+      written-count (j * n) (n * l) G d₀ d (ap (λ (i : ℕ). i * n) e ∙ mul-comm l n) (p .is)
 
 -- a whole stage: 2^b lines of 2^a places, l of them as the code has it
 pub rooms : {src dst : List ℤ} (a b l : ℕ) → l ≡ 2 ^ b → 2 ^ (a + b) ≤ length src → 2 ^ (a + b) ≤ length dst → StageRoom src dst (2 ^ a) l

@@ -16,16 +16,13 @@ use Rattle.integers.proofs.Sum.{sum-ext}
 use Rattle.integers.proofs.Written.{grid-at}
 use Rattle.evc.specs.Stages.{product}
 use Rattle.itx_halving.specs.Line.{Table}
-use Rattle.itx_halving.specs.Lines.{Bounded, Next, LineRoom, Lined}
+use Rattle.itx_halving.specs.Lines.{Bounded, Next, Lined}
 use Rattle.itx_halving.proofs.Instance.{Same}
 use Rattle.itx_halving.proofs.Lines.{place, next-ext, left}
 use Rattle.itx_halving.specs.Straight.{Reach, Line}
 
 pub reach-at : {t x : List ℤ} (w N l j : ℕ) → Table t w N → j < l → N * l ≤ length x → Reach t w x l j N
 reach-at w N l j g a r = record { table = g .room; input = λ k h. place k l j N _ h a r }
-
-pub reach : {t x dst : List ℤ} (w N l j : ℕ) → Table t w N → LineRoom x dst N l j → Reach t w x l j N
-reach w N l j g r = reach-at w N l j g (r .among) (r .src-room)
 
 -- the sums of stage two have room for the rounding number
 pub bounded : {B N l j : ℕ} {T : ℕ → ℕ → ℤ} {x y : List ℤ} → Line B T N l x j y → B ≤ 17592186044416 → Bounded y N
@@ -37,8 +34,13 @@ unfolding product
 same-sum T U N l j k x e h = sum-ext ofZ+ N _ _ (λ i r. ap (λ (z : ℤ). z *ℤ getD x (i * l + j) (pos 0)) (e i k r h))
 
 -- the stage leaves f of each sum
-pub rowed : (f : ℤ → ℤ) (T U : ℕ → ℕ → ℤ) (B N l j : ℕ) {src d₀ d y : List ℤ} → Same N T U → Line B T N l src j y → Next d₀ d (j * N) N (λ k. f (getD y k (pos 0))) → Lined (left f U N l j src) d₀ d N j
-rowed f T U B N l j {src} {d₀} {d} {y} e s n =
+pub rowed :
+    (f : ℤ → ℤ) {T U : ℕ → ℕ → ℤ} {B N l j : ℕ} {src d₀ d y : List ℤ} →
+    Same N T U →
+    Line B T N l src j y →
+    Next d₀ d (j * N) N (λ k. f (getD y k (pos 0))) →
+    Lined (left f U N l j src) d₀ d N j
+rowed f {T} {U} {B} {N} {l} {j} {src} e s n =
     next-ext n (λ k h. ap f (s .at k h ∙ same-sum T U N l j k src e h) ∙ sym (grid-at (λ j k. f (product U N l src j k)) j k N h))
 
 -- sums that fit a width, as the machine holds them

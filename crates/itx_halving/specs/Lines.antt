@@ -34,12 +34,6 @@ pub record Next (d₀ d : List ℤ) (a n : ℕ) (g : ℕ → ℤ) : Type 0 where
   pub long : length d ≡ length d₀
   pub after : (G : ℕ → ℤ) (l : List ℤ) → a + n ≤ length l → d₀ ≡ written a G l → ((k : ℕ) → k < n → g k ≡ G (a + k)) → d ≡ written (a + n) G l
 
--- line j of l, of n places each, lies within both buffers
-pub record LineRoom (src dst : List ℤ) (n l j : ℕ) : Type 0 where
-  pub among : j < l
-  pub src-room : n * l ≤ length src
-  pub dst-room : j * n + n ≤ length dst
-
 -- line j of a stage of size N, which leaves G, is stored
 abbrev pub Lined : (ℕ → ℤ) → List ℤ → List ℤ → ℕ → ℕ → Type 0
 Lined G d₀ d N j = Next d₀ d (j * N) N (λ k. G (j * N + k))

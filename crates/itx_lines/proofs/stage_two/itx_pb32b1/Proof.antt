@@ -1,37 +1,40 @@
 -- `itx_lines::stage_two::itx_pb32b1` meets its contract: line after line, each gathered, summed, stored. Assumes nothing.
-use mathlib.Core.Path.{_≡_, refl, sym}
-use Prim.Native.Nat.{ℕ, _*_, _-_, _≤_}
+use mathlib.Core.Path.{refl, sym}
+use Prim.Native.Nat.{_-_}
 use native.Mathlib.Omega.{arith}
-use lib.IntN.{ℤ}
 use mir.Facts.{toZ-ofZ}
-use Rattle.integers.specs.Lists.{written}
 use Rattle.evc.specs.Table.{tm}
 use Rattle.evc.specs.Stages.{stageTwoAt}
 use Rattle.itx_halving.specs.Lines.{shifted}
-use Rattle.itx_halving.proofs.Lines.{inputs, lined, room-of, lines-none, lines-more, lines-length, lines-all}
+use Rattle.itx_halving.proofs.Lines.{inputs, lined, Upto, upto-none, upto-room, upto-more, upto-all}
 use Rattle.itx_halving.proofs.Instance.{built-in-bounded}
 use Rattle.itx_lines.proofs.stage_two.itx_pb32b1.Statement.{statement}
 use Rattle.itx_lines.proofs.stage_two.itx_pb32b1.Tie as tie
 
 abbrev Inv-loop : tie.InvT-loop
-Inv-loop src dst₀ l add shift j₀ dst j = (j ≤ l) × (dst ≡ written (j * 32) (stageTwoAt (tm 32) 32 l shift src) dst₀)
+Inv-loop src dst₀ l add shift j₀ dst j = Upto (stageTwoAt (tm 32) 32 l shift src) 32 l dst₀ dst j
 
 abbrev μ-loop : tie.MeasureT-loop
 μ-loop src dst₀ l add shift j₀ dst j = l - j
 
--- what the stage leaves
-abbrev left : tie.Start Inv-loop μ-loop → ℕ → ℤ
-left s = stageTwoAt (tm 32) 32 (s .args .l) (s .args .shift) (s .args .src .now)
+-- where a line is summed, gathered, and its turn begins, as its store sees them
+abbrev summed : tie.After-store-i16-arg Inv-loop μ-loop → tie.After-built-in32 Inv-loop μ-loop
+summed c = c .before .before .before
+
+abbrev gathered : tie.After-store-i16-arg Inv-loop μ-loop → tie.After-gather-i32 Inv-loop μ-loop
+gathered c = summed c .before .before .before .before
+
+abbrev turn : tie.After-store-i16-arg Inv-loop μ-loop → tie.In-loop Inv-loop μ-loop
+turn c = gathered c .before .before
 
 loop-holds : tie.Need-loop-holds Inv-loop μ-loop
-loop-holds c = let s = c in (omega arith, lines-none (left s) (s .args .dst .now) 32)
+loop-holds c = upto-none (c .pre .1 .dst-room)
 
 slice-aggregate-gather-i32 : tie.Need-slice-aggregate-gather-i32 Inv-loop μ-loop
 slice-aggregate-gather-i32 c = refl
 
 gather-i32-requires : tie.Need-gather-i32-requires Inv-loop μ-loop
-gather-i32-requires c κs =
-    let s = c .before .before .before in (refl, (c .before .loop-test .taken, s .pre .1 .src-room))
+gather-i32-requires c κs = (refl, (c .before .loop-test .taken, c .before .before .before .pre .1 .src-room))
 
 slice-aggregate-built-in32 : tie.Need-slice-aggregate-built-in32 Inv-loop μ-loop
 slice-aggregate-built-in32 c = refl
@@ -44,42 +47,29 @@ slice-aggregate-store-i16 c = sym (c .before .before .built-in32 .ensures .long)
 
 store-i16-requires : tie.Need-store-i16-requires Inv-loop μ-loop
 store-i16-requires c κs =
-    let s = c .before .before .before .before .before .before .before .before .before .before .before in
-    let l = c .before .before .before .before .before .before .before .before .before .before .loop in (
-      (
-        rw (toZ-ofZ (s .fits .add)) (s .pre .0),
-        built-in-bounded 32 (inputs (c .before .before .before .before .before .before .before .gather-i32 .ensures) (omega arith)) (c .before .before .before .built-in32 .ensures),
-      ),
-      (omega (arith, c .before .before .before .built-in32 .ensures .long), room-of (l .dst) 32 (s .args .l) (l .j) (lines-length (left s) (s .args .dst .now) 32 (s .args .l) (l .j) (l .inv .0) (s .pre .1 .dst-room) (l .inv .1)) (c .before .before .before .before .before .before .before .before .before .loop-test .taken) (s .pre .1) .dst-room),
+    let s = turn c .before .before in (
+      (rw (toZ-ofZ (s .fits .add)) (s .pre .0), built-in-bounded 32 (inputs (gathered c .gather-i32 .ensures) (omega arith)) (summed c .built-in32 .ensures)),
+      (omega (arith, summed c .built-in32 .ensures .long), upto-room (turn c .before .loop .inv) (turn c .loop-test .taken)),
     )
 
 add-j : tie.Need-add-j Inv-loop μ-loop
-add-j c = omega (arith, c .before .before .before .before .before .before .before .before .before .before .before .loop-test .taken)
+add-j c = omega (arith, turn (c .before .before) .loop-test .taken)
 
 loop-less : tie.Need-loop-less Inv-loop μ-loop
-loop-less c = omega (arith, c .before .before .before .before .before .before .before .before .before .before .before .loop-test .taken)
+loop-less c = omega (arith, turn (c .before .before) .loop-test .taken)
 
 loop-again : tie.Need-loop-again Inv-loop μ-loop
 unfolding stageTwoAt
 loop-again c =
-    let s = c .before .before .before .before .before .before .before .before .before .before .before .before .before in
-    let l = c .before .before .before .before .before .before .before .before .before .before .before .before .loop in (
-      omega (arith, c .before .before .before .before .before .before .before .before .before .before .before .loop-test .taken),
-      lines-more (left s) (s .args .dst .now) 32 (s .args .l) (l .j) (c .before .before .before .before .before .before .before .before .before .before .before .loop-test .taken) (s .pre .1 .dst-room) (l .inv .1)
-          (lined (shifted (s .args .shift)) (tm 32) 32 (s .args .l) (l .j) (s .args .src .now) (c .before .before .before .before .before .before .before .before .before .gather-i32 .ensures) (c .before .before .before .before .before .built-in32 .ensures) (c .before .store-i16 .ensures)),
-    )
+    let a = c .before .before in
+    upto-more (turn a .before .loop .inv) (turn a .loop-test .taken)
+    (lined (shifted (turn a .before .before .args .shift)) (tm 32) 32 _ _ _ (gathered a .gather-i32 .ensures) (summed a .built-in32 .ensures) (c .before .store-i16 .ensures))
 
 same-length : tie.Need-same-length Inv-loop μ-loop
-same-length c =
-    let s = c .before .before in
-    let l = c .before .loop in
-    lines-length (left s) (s .args .dst .now) 32 (s .args .l) (l .j) (l .inv .0) (s .pre .1 .dst-room) (l .inv .1)
+same-length c = c .before .loop .inv .long
 
 returns : tie.Need-returns Inv-loop μ-loop
-returns c =
-    let s = c .before .before in
-    let l = c .before .loop in
-    lines-all (left s) (s .args .dst .now) 32 (s .args .l) (l .j) (omega (arith, l .inv .0, c .loop-test .left)) (l .inv .1)
+returns c = upto-all (c .before .loop .inv) (c .loop-test .left)
 
 pub itx-pb32b1-spec : {M : Type 1} → statement M
 itx-pb32b1-spec =

@@ -1,39 +1,31 @@
 -- `itxb0_small::stage_one::rows2` meets its contract: line after line, summed with document 01's table, and stored. Assumes nothing.
 use borrow.Author.Needs.{needs}
-use mathlib.Core.Path.{_≡_}
-use mathlib.Core.List.{List}
-use Prim.Native.Nat.{ℕ, _*_, _-_, _≤_, _<_}
+use Prim.Native.Nat.{_*_, _-_}
 use native.Mathlib.Omega.{arith}
-use lib.IntN.{ℤ}
 use Rattle.integers.specs.Z.{clip32}
-use Rattle.integers.specs.Lists.{written}
 use Rattle.evc.specs.Table.{tm}
 use Rattle.evc.specs.Stages.{stageOneAt}
-use Rattle.itx_halving.specs.Line.{rows}
-use Rattle.itx_halving.specs.Lines.{LineRoom}
 use Rattle.itx_halving.proofs.Instance.{built-in-table, built-in-same}
-use Rattle.itx_halving.proofs.Lines.{room-of, lines-none, lines-more, lines-length, lines-all}
-use Rattle.itxb0_small.specs.Sums.{narrow}
-use Rattle.itx_halving.proofs.Rows.{reach, rowed}
+use Rattle.itx_halving.proofs.Lines.{Upto, upto-none, upto-room, upto-more, upto-all}
+use Rattle.itx_halving.proofs.Rows.{reach-at, rowed}
 use Rattle.itxb0_small.proofs.stage_one.rows2.Statement.{statement}
 use Rattle.itxb0_small.proofs.stage_one.rows2.Tie as tie
 
 abbrev Inv-loop : tie.InvT-loop
-Inv-loop src dst₀ l j₀ dst j = (j ≤ l) × (dst ≡ written (j * 2) (stageOneAt (tm 2) 2 l src) dst₀)
+Inv-loop src dst₀ l j₀ dst j = Upto (stageOneAt (tm 2) 2 l src) 2 l dst₀ dst j
 
 abbrev μ-loop : tie.MeasureT-loop
 μ-loop src dst₀ l j₀ dst j = l - j
 
--- what the stage leaves
-abbrev left : tie.Start Inv-loop μ-loop → ℕ → ℤ
-left s = stageOneAt (tm 2) 2 (s .args .l) (s .args .src .now)
+-- where a line is summed, and its turn begins, as its store sees them
+abbrev summed : tie.After-store-i32-arg Inv-loop μ-loop → tie.After-line2 Inv-loop μ-loop
+summed c = c .before .before
 
--- where a turn reads and writes
-room : (s : tie.Start Inv-loop μ-loop) (d : List ℤ) (j : ℕ) → j < s .args .l → d ≡ written (j * 2) (left s) (s .args .dst .now) → LineRoom (s .args .src .now) d 2 (s .args .l) j
-room s d j h e = room-of d 2 (s .args .l) j (lines-length (left s) (s .args .dst .now) 2 (s .args .l) j (omega arith) (s .pre .dst-room) e) h (s .pre)
+abbrev turn : tie.After-store-i32-arg Inv-loop μ-loop → tie.In-loop Inv-loop μ-loop
+turn c = summed c .before .before .before
 
 loop-holds : tie.Need-loop-holds Inv-loop μ-loop
-loop-holds c = (omega arith, lines-none (left c) (c .args .dst .now) 2)
+loop-holds c = upto-none (c .pre .dst-room)
 
 table-requires : tie.Need-table-requires Inv-loop μ-loop
 table-requires c κs = search needs
@@ -43,53 +35,32 @@ slice-aggregate-line2 c = search needs
 
 line2-requires : tie.Need-line2-requires Inv-loop μ-loop
 line2-requires c κs =
-    let t = c .before .table in
-    let th = c .before .before in
-    let lo = th .before in
-    let s = lo .before in
-    reach 2048 2 (s .args .l) (lo .loop .j) (built-in-table 1 (omega arith) (t .result) (t .ensures)) (room s (lo .loop .dst) (lo .loop .j) (th .loop-test .taken) (lo .loop .inv .1))
+    let h = c .before .before in reach-at 2048 2 _ _ (built-in-table 1 (omega arith) _ (c .before .table .ensures)) (h .loop-test .taken) (h .before .before .pre .src-room)
 
 slice-aggregate-store-i32 : tie.Need-slice-aggregate-store-i32 Inv-loop μ-loop
 slice-aggregate-store-i32 c = search needs
 
 store-i32-requires : tie.Need-store-i32-requires Inv-loop μ-loop
-store-i32-requires c κs =
-    let y = c .before .before in
-    let th = y .before .before .before in
-    let lo = th .before in
-    let s = lo .before in
-    (omega (arith, y .line2 .ensures .long), room s (lo .loop .dst) (lo .loop .j) (th .loop-test .taken) (lo .loop .inv .1) .dst-room)
+store-i32-requires c κs = (omega (arith, summed c .line2 .ensures .long), upto-room (turn c .before .loop .inv) (turn c .loop-test .taken))
 
 add-j : tie.Need-add-j Inv-loop μ-loop
-add-j c = omega (arith, c .before .before .before .before .before .before .before .loop-test .taken)
+add-j c = omega (arith, turn (c .before .before) .loop-test .taken)
 
 loop-less : tie.Need-loop-less Inv-loop μ-loop
-loop-less c = omega (arith, c .before .before .before .before .before .before .before .loop-test .taken)
+loop-less c = omega (arith, turn (c .before .before) .loop-test .taken)
 
 loop-again : tie.Need-loop-again Inv-loop μ-loop
 unfolding stageOneAt
 loop-again c =
-    let y = c .before .before .before .before in
-    let t = y .before .before .table in
-    let th = y .before .before .before in
-    let lo = th .before in
-    let s = lo .before in (
-      omega (arith, th .loop-test .taken),
-      lines-more (left s) (s .args .dst .now) 2 (s .args .l) (lo .loop .j) (th .loop-test .taken) (s .pre .dst-room) (lo .loop .inv .1)
-          (rowed clip32 (rows (t .result) 2048) (tm 2) (2 * narrow) 2 (s .args .l) (lo .loop .j) (built-in-same 1 (omega arith) (t .result) (t .ensures)) (y .line2 .ensures) (c .before .store-i32 .ensures)),
-    )
+    let a = c .before .before in
+    upto-more (turn a .before .loop .inv) (turn a .loop-test .taken)
+    (rowed clip32 (built-in-same 1 (omega arith) _ (summed a .before .before .table .ensures)) (summed a .line2 .ensures) (c .before .store-i32 .ensures))
 
 same-length : tie.Need-same-length Inv-loop μ-loop
-same-length c =
-    let s = c .before .before in
-    let l = c .before .loop in
-    lines-length (left s) (s .args .dst .now) 2 (s .args .l) (l .j) (l .inv .0) (s .pre .dst-room) (l .inv .1)
+same-length c = c .before .loop .inv .long
 
 returns : tie.Need-returns Inv-loop μ-loop
-returns c =
-    let s = c .before .before in
-    let l = c .before .loop in
-    lines-all (left s) (s .args .dst .now) 2 (s .args .l) (l .j) (omega (arith, l .inv .0, c .loop-test .left)) (l .inv .1)
+returns c = upto-all (c .before .loop .inv) (c .loop-test .left)
 
 pub rows2-spec : {M : Type 1} → statement M
 rows2-spec =

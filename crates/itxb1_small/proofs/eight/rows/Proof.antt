@@ -1,39 +1,36 @@
 -- `itxb1_small::eight::rows` meets its contract: line after line, summed with document 01's table, and kept. Assumes nothing.
 use borrow.Author.Needs.{needs}
-use mathlib.Core.Path.{_≡_, ap, ap₂, _∙_}
-use mathlib.Core.List.{List}
-use Prim.Native.Nat.{ℕ, _+_, _*_, _-_, _≤_, _<_}
+use mathlib.Core.Path.{ap, ap₂, _∙_}
+use Prim.Native.Nat.{_+_, _*_, _-_}
 use native.Mathlib.Omega.{arith}
-use lib.ListN.{length}
 use lib.IntN.{ℤ, _+ℤ_}
 use mir.Facts.{toZ-ofZ}
 use Rattle.integers.specs.Z.{floorPow, clip32}
-use Rattle.integers.specs.Lists.{written}
 use Rattle.evc.specs.Table.{tm}
 use Rattle.itx_halving.specs.Line.{rows}
 use Rattle.itx_halving.proofs.Instance.{built-in-table, built-in-same}
-use Rattle.itx_halving.proofs.Lines.{next-ext, rounding-within, lines-none, lines-more, lines-length, lines-all}
-use Rattle.itxb1_small.specs.Groups.{quotientAt}
+use Rattle.itx_halving.proofs.Lines.{next-ext, rounding-within, Upto, upto-none, upto-room, upto-more, upto-all}
 use Rattle.itx_halving.proofs.Rows.{reach-at, same-sum}
+use Rattle.itxb1_small.specs.Groups.{quotientAt}
 use Rattle.itxb1_small.proofs.Quotients.{kept-at}
 use Rattle.itxb1_small.proofs.eight.rows.Statement.{statement}
 use Rattle.itxb1_small.proofs.eight.rows.Tie as tie
 
 abbrev Inv-loop : tie.InvT-loop
-Inv-loop src z₀ l j0 m add shift j₀ z j = (j ≤ m) × (z ≡ written (j * 8) (λ i. quotientAt l shift src (j0 * 8 + i)) z₀)
+Inv-loop src z₀ l j0 m add shift j₀ z j = Upto (λ i. quotientAt l shift src (j0 * 8 + i)) 8 m z₀ z j
 
 abbrev μ-loop : tie.MeasureT-loop
 μ-loop src z₀ l j0 m add shift j₀ z j = m - j
 
--- what is kept
-abbrev kept : tie.Start Inv-loop μ-loop → ℕ → ℤ
-kept s i = quotientAt (s .args .l) (s .args .shift) (s .args .src .now) (s .args .j0 * 8 + i)
+-- where a line is summed, and its turn begins, as its store sees them
+abbrev summed : tie.After-store-quotients-arg Inv-loop μ-loop → tie.After-line8 Inv-loop μ-loop
+summed c = c .before .before
 
-same : (s : tie.Start Inv-loop μ-loop) (z : List ℤ) (j : ℕ) → j ≤ s .args .m → z ≡ written (j * 8) (kept s) (s .args .z .now) → length z ≡ length (s .args .z .now)
-same s z j h e = lines-length (kept s) (s .args .z .now) 8 (s .args .m) j h (s .pre .1 .z-room) e
+abbrev turn : tie.After-store-quotients-arg Inv-loop μ-loop → tie.In-loop Inv-loop μ-loop
+turn c = summed c .before .before .before
 
 loop-holds : tie.Need-loop-holds Inv-loop μ-loop
-loop-holds c = (omega arith, lines-none (kept c) (c .args .z .now) 8)
+loop-holds c = upto-none (c .pre .1 .z-room)
 
 table-requires : tie.Need-table-requires Inv-loop μ-loop
 table-requires c κs = search needs
@@ -42,16 +39,15 @@ slice-aggregate-line8 : tie.Need-slice-aggregate-line8 Inv-loop μ-loop
 slice-aggregate-line8 c = search needs
 
 add-line8 : tie.Need-add-line8 Inv-loop μ-loop
-add-line8 c = let th = c .before .before in let s = th .before .before in omega (arith, s .pre .1 .among, th .loop-test .taken)
+add-line8 c = let h = c .before .before in omega (arith, h .before .before .pre .1 .among, h .loop-test .taken)
 
 line8-requires : tie.Need-line8-requires Inv-loop μ-loop
 line8-requires c κs =
-    let t = c .before .table in
-    let th = c .before .before in
-    let lo = th .before in
-    let s = lo .before in
-    let g = s .pre .1 in (
-      (reach-at 512 8 (s .args .l) (s .args .j0 + lo .loop .j) (built-in-table 3 (omega arith) (t .result) (t .ensures)) (omega (arith, g .among, th .loop-test .taken)) (g .src-room), (built-in-table 3 (omega arith) (t .result) (t .ensures) .mirrored, built-in-table 2 (omega arith) (t .result) (t .ensures) .mirrored)),
+    let h = c .before .before in
+    let s = h .before .before in
+    let t = built-in-table 3 (omega arith) _ (c .before .table .ensures) in
+    let u = built-in-table 2 (omega arith) _ (c .before .table .ensures) in (
+      (reach-at 512 8 _ _ t (omega (arith, s .pre .1 .among, h .loop-test .taken)) (s .pre .1 .src-room), (t .mirrored, u .mirrored)),
       rw (toZ-ofZ (s .fits .add), s .pre .0 .is) (rounding-within (s .args .shift) (s .pre .0 .most) .bound),
     )
 
@@ -60,42 +56,35 @@ slice-aggregate-store-quotients c = search needs
 
 store-quotients-requires : tie.Need-store-quotients-requires Inv-loop μ-loop
 store-quotients-requires c κs =
-    let y = c .before .before in
-    let th = y .before .before .before in
-    let lo = th .before in
-    let s = lo .before in
-    ((s .pre .0 .most, y .line8 .ensures .small), (omega (arith, y .line8 .ensures .long), omega (arith, s .pre .1 .z-room, th .loop-test .taken, same s (lo .loop .z) (lo .loop .j) (lo .loop .inv .0) (lo .loop .inv .1))))
+    let y = summed c .line8 .ensures in (
+      (turn c .before .before .pre .0 .most, y .small),
+      (omega (arith, y .long), upto-room (turn c .before .loop .inv) (turn c .loop-test .taken)),
+    )
 
 add-j : tie.Need-add-j Inv-loop μ-loop
-add-j c = omega (arith, c .before .before .before .before .before .before .before .loop-test .taken)
+add-j c = omega (arith, turn (c .before .before) .loop-test .taken)
 
 loop-less : tie.Need-loop-less Inv-loop μ-loop
-loop-less c = omega (arith, c .before .before .before .before .before .before .before .loop-test .taken)
+loop-less c = omega (arith, turn (c .before .before) .loop-test .taken)
 
 loop-again : tie.Need-loop-again Inv-loop μ-loop
 loop-again c =
-    let y = c .before .before .before .before in
-    let t = y .before .before .table in
-    let th = y .before .before .before in
-    let lo = th .before in
-    let s = lo .before in (
-      omega (arith, th .loop-test .taken),
-      lines-more (kept s) (s .args .z .now) 8 (s .args .m) (lo .loop .j) (th .loop-test .taken) (s .pre .1 .z-room) (lo .loop .inv .1)
-          (next-ext (c .before .store-quotients .ensures)
-          (λ k h.
-          ap (λ (z : ℤ). clip32 (floorPow z (s .args .shift)))
-          (y .line8 .ensures .at k h ∙ ap₂ _+ℤ_ (same-sum (rows (t .result) 512) (tm 8) 8 (s .args .l) (s .args .j0 + lo .loop .j) k (s .args .src .now) (built-in-same 3 (omega arith) (t .result) (t .ensures)) h) (toZ-ofZ (s .fits .add) ∙ s .pre .0 .is))
-          ∙ kept-at (s .args .l) (s .args .shift) (s .args .src .now) (s .args .j0) (lo .loop .j) k h)),
-    )
+    let a = c .before .before in
+    let t = summed a .before .before .table in
+    let l = turn a .before .loop in
+    let s = turn a .before .before in
+    upto-more (l .inv) (turn a .loop-test .taken)
+    (next-ext (c .before .store-quotients .ensures)
+    (λ k h.
+    let e = same-sum (rows (t .result) 512) (tm 8) 8 (s .args .l) (s .args .j0 + l .j) k (s .args .src .now) (built-in-same 3 (omega arith) _ (t .ensures)) h in
+    ap (λ (z : ℤ). clip32 (floorPow z (s .args .shift))) (summed a .line8 .ensures .at k h ∙ ap₂ _+ℤ_ e (toZ-ofZ (s .fits .add) ∙ s .pre .0 .is))
+    ∙ kept-at (s .args .l) (s .args .shift) (s .args .src .now) (s .args .j0) (l .j) k h))
 
 same-length : tie.Need-same-length Inv-loop μ-loop
-same-length c = let l = c .before .loop in same (c .before .before) (l .z) (l .j) (l .inv .0) (l .inv .1)
+same-length c = c .before .loop .inv .long
 
 returns : tie.Need-returns Inv-loop μ-loop
-returns c =
-    let s = c .before .before in
-    let l = c .before .loop in
-    lines-all (kept s) (s .args .z .now) 8 (s .args .m) (l .j) (omega (arith, l .inv .0, c .loop-test .left)) (l .inv .1)
+returns c = upto-all (c .before .loop .inv) (c .loop-test .left)
 
 pub rows-spec : {M : Type 1} → statement M
 rows-spec =

@@ -1,40 +1,34 @@
 -- `itxb1_small::stage_two::rows4` meets its contract: line after line, summed with document 01's table, and stored. Assumes nothing.
 use borrow.Author.Needs.{needs}
-use mathlib.Core.Path.{_≡_}
-use mathlib.Core.List.{List}
-use Prim.Native.Nat.{ℕ, _*_, _-_, _≤_, _<_}
+use Prim.Native.Nat.{_*_, _-_}
 use native.Mathlib.Omega.{arith}
-use lib.IntN.{ℤ}
 use mir.Syntax.{w64}
 use mir.Facts.{toZ-ofZ}
-use Rattle.integers.specs.Lists.{written}
 use Rattle.evc.specs.Table.{tm}
 use Rattle.evc.specs.Stages.{stageTwoAt}
-use Rattle.itx_halving.specs.Line.{rows}
-use Rattle.itx_halving.specs.Lines.{shifted, LineRoom}
+use Rattle.itx_halving.specs.Lines.{shifted}
 use Rattle.itx_halving.proofs.Instance.{built-in-table, built-in-same}
-use Rattle.itx_halving.proofs.Lines.{room-of, lines-none, lines-more, lines-length, lines-all}
+use Rattle.itx_halving.proofs.Lines.{Upto, upto-none, upto-room, upto-more, upto-all}
+use Rattle.itx_halving.proofs.Rows.{reach-at, rowed, bounded, held}
 use Rattle.itxb1_small.specs.Sums.{wide}
-use Rattle.itx_halving.proofs.Rows.{reach, rowed, bounded, held}
 use Rattle.itxb1_small.proofs.stage_two.rows4.Statement.{statement}
 use Rattle.itxb1_small.proofs.stage_two.rows4.Tie as tie
 
 abbrev Inv-loop : tie.InvT-loop
-Inv-loop src dst₀ l add shift j₀ dst j = (j ≤ l) × (dst ≡ written (j * 4) (stageTwoAt (tm 4) 4 l shift src) dst₀)
+Inv-loop src dst₀ l add shift j₀ dst j = Upto (stageTwoAt (tm 4) 4 l shift src) 4 l dst₀ dst j
 
 abbrev μ-loop : tie.MeasureT-loop
 μ-loop src dst₀ l add shift j₀ dst j = l - j
 
--- what the stage leaves
-abbrev left : tie.Start Inv-loop μ-loop → ℕ → ℤ
-left s = stageTwoAt (tm 4) 4 (s .args .l) (s .args .shift) (s .args .src .now)
+-- where a line is summed, and its turn begins, as its store sees them
+abbrev summed : tie.After-store-i16-arg Inv-loop μ-loop → tie.After-line4 Inv-loop μ-loop
+summed c = c .before .before .before
 
--- where a turn reads and writes
-room : (s : tie.Start Inv-loop μ-loop) (d : List ℤ) (j : ℕ) → j < s .args .l → d ≡ written (j * 4) (left s) (s .args .dst .now) → LineRoom (s .args .src .now) d 4 (s .args .l) j
-room s d j h e = room-of d 4 (s .args .l) j (lines-length (left s) (s .args .dst .now) 4 (s .args .l) j (omega arith) (s .pre .1 .dst-room) e) h (s .pre .1)
+abbrev turn : tie.After-store-i16-arg Inv-loop μ-loop → tie.In-loop Inv-loop μ-loop
+turn c = summed c .before .before .before
 
 loop-holds : tie.Need-loop-holds Inv-loop μ-loop
-loop-holds c = (omega arith, lines-none (left c) (c .args .dst .now) 4)
+loop-holds c = upto-none (c .pre .1 .dst-room)
 
 table-requires : tie.Need-table-requires Inv-loop μ-loop
 table-requires c κs = search needs
@@ -44,53 +38,36 @@ slice-aggregate-line4 c = search needs
 
 line4-requires : tie.Need-line4-requires Inv-loop μ-loop
 line4-requires c κs =
-    let t = c .before .table in
-    let th = c .before .before in
-    let lo = th .before in
-    let s = lo .before in
-    (reach 1024 4 (s .args .l) (lo .loop .j) (built-in-table 2 (omega arith) (t .result) (t .ensures)) (room s (lo .loop .dst) (lo .loop .j) (th .loop-test .taken) (lo .loop .inv .1)), built-in-table 2 (omega arith) (t .result) (t .ensures) .mirrored)
+    let h = c .before .before in
+    let t = built-in-table 2 (omega arith) _ (c .before .table .ensures) in
+    (reach-at 1024 4 _ _ t (h .loop-test .taken) (h .before .before .pre .1 .src-room), t .mirrored)
 
 slice-aggregate-store-i16 : tie.Need-slice-aggregate-store-i16 Inv-loop μ-loop
 slice-aggregate-store-i16 c = search needs
 
 store-i16-requires : tie.Need-store-i16-requires Inv-loop μ-loop
 store-i16-requires c κs =
-    let y = c .before .before .before in
-    let th = y .before .before .before in
-    let lo = th .before in
-    let s = lo .before in
-    ((rw (toZ-ofZ (s .fits .add)) (s .pre .0), bounded (held w64 (4 * wide) tt _ (y .line4 .ensures)) (omega arith)), (omega arith, room s (lo .loop .dst) (lo .loop .j) (th .loop-test .taken) (lo .loop .inv .1) .dst-room))
+    let s = turn c .before .before in
+    ((rw (toZ-ofZ (s .fits .add)) (s .pre .0), bounded (held w64 (4 * wide) tt _ (summed c .line4 .ensures)) (omega arith)), (omega arith, upto-room (turn c .before .loop .inv) (turn c .loop-test .taken)))
 
 add-j : tie.Need-add-j Inv-loop μ-loop
-add-j c = omega (arith, c .before .before .before .before .before .before .before .before .loop-test .taken)
+add-j c = omega (arith, turn (c .before .before) .loop-test .taken)
 
 loop-less : tie.Need-loop-less Inv-loop μ-loop
-loop-less c = omega (arith, c .before .before .before .before .before .before .before .before .loop-test .taken)
+loop-less c = omega (arith, turn (c .before .before) .loop-test .taken)
 
 loop-again : tie.Need-loop-again Inv-loop μ-loop
 unfolding stageTwoAt
 loop-again c =
-    let y = c .before .before .before .before .before in
-    let t = y .before .before .table in
-    let th = y .before .before .before in
-    let lo = th .before in
-    let s = lo .before in (
-      omega (arith, th .loop-test .taken),
-      lines-more (left s) (s .args .dst .now) 4 (s .args .l) (lo .loop .j) (th .loop-test .taken) (s .pre .1 .dst-room) (lo .loop .inv .1)
-          (rowed (shifted (s .args .shift)) (rows (t .result) 1024) (tm 4) (4 * wide) 4 (s .args .l) (lo .loop .j) (built-in-same 2 (omega arith) (t .result) (t .ensures)) (held w64 (4 * wide) tt _ (y .line4 .ensures)) (c .before .store-i16 .ensures)),
-    )
+    let a = c .before .before in
+    upto-more (turn a .before .loop .inv) (turn a .loop-test .taken)
+    (rowed (shifted (turn a .before .before .args .shift)) (built-in-same 2 (omega arith) _ (summed a .before .before .table .ensures)) (held w64 (4 * wide) tt _ (summed a .line4 .ensures)) (c .before .store-i16 .ensures))
 
 same-length : tie.Need-same-length Inv-loop μ-loop
-same-length c =
-    let s = c .before .before in
-    let l = c .before .loop in
-    lines-length (left s) (s .args .dst .now) 4 (s .args .l) (l .j) (l .inv .0) (s .pre .1 .dst-room) (l .inv .1)
+same-length c = c .before .loop .inv .long
 
 returns : tie.Need-returns Inv-loop μ-loop
-returns c =
-    let s = c .before .before in
-    let l = c .before .loop in
-    lines-all (left s) (s .args .dst .now) 4 (s .args .l) (l .j) (omega (arith, l .inv .0, c .loop-test .left)) (l .inv .1)
+returns c = upto-all (c .before .loop .inv) (c .loop-test .left)
 
 pub rows4-spec : {M : Type 1} → statement M
 rows4-spec =
