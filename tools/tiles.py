@@ -1,6 +1,6 @@
 #!/usr/bin/env python3
 """Writes what the crate `satd` has more than once, code and proofs: the tiles of 4 by 4 and of 2 by 2 from those of 8 by 8, of which only the
-side differs, and the rows of two blocks from those of the crate `diff`: a helper that asks something of its caller is its crate's own.
+side differs; and the proof of its `any_rows` from that of the crate `diff`: a helper that asks something of its caller is its crate's own.
 
     tools/tiles.py            writes the files
     tools/tiles.py --check    writes nothing; fails where a file differs from what would be written
@@ -11,8 +11,13 @@ from pathlib import Path
 
 CRATES = Path(__file__).resolve().parent.parent / "crates"
 CRATE = CRATES / "satd"
-FROM = CRATES / "diff"
 SIDES = (4, 2)
+
+
+def told(text, mark, source):
+    """The text with a line below its first that says who wrote it, and from what."""
+    first, rest = text.split("\n", 1)
+    return f"{first}\n{mark} Written by tools/tiles.py, from {source}.\n{rest}"
 
 
 def turned(text, side):
@@ -21,16 +26,16 @@ def turned(text, side):
 
 
 def owned(text):
-    text = text.replace("Rattle.diff.specs.", "Rattle.diff.specs.")
-    return text.replace("Rattle.diff.proofs.", "Rattle.satd.proofs.")
+    return text.replace("Rattle.diff.proofs.diff.", "Rattle.satd.proofs.any.").replace("`diff::diff::", "`satd::any::")
 
 
 def files():
     for path in [CRATE / "src" / "tiles8.rt", *sorted((CRATE / "proofs" / "tiles8").rglob("*.antt"))]:
+        mark = "//" if path.suffix == ".rt" else "--"
         for side in SIDES:
-            yield Path(str(path).replace("tiles8", f"tiles{side}")), turned(path.read_text(), side)
-    for path in [FROM / "src" / "rows.rt", *sorted((FROM / "proofs" / "rows").rglob("*.antt"))]:
-        yield CRATE / path.relative_to(FROM), owned(path.read_text())
+            yield Path(str(path).replace("tiles8", f"tiles{side}")), told(turned(path.read_text(), side), mark, "the tiles of 8 by 8")
+    path = CRATES / "diff" / "proofs" / "diff" / "any_rows" / "Proof.antt"
+    yield CRATE / "proofs" / "any" / "any_rows" / "Proof.antt", told(owned(path.read_text()), "--", "that of the crate diff")
 
 
 def main():

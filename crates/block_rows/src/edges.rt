@@ -58,7 +58,7 @@ fn left(n: usize, from: usize) -> usize
 }
 
 // A row's sample; past its end, which no block reaches, 0.
-fn sample(row: &[u16], at: usize) -> u16
+pub(crate) fn sample(row: &[u16], at: usize) -> u16
     ensures { λ r. ⌜ r ≡ getD (now (row .entry)) at 0 ⌝ }
 {
     if at < row.len() { row[at] } else { 0 }

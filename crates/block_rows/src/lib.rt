@@ -1,6 +1,9 @@
 // What the crates that compare two blocks row by row share: what they add up, and a row of samples at positions that may be negative.
+mod differences;
 mod edges;
 
+pub use differences::any_row;
+pub use differences::diff_row;
 pub use edges::edge_row;
 pub use edges::negative;
 pub use edges::row_start;

@@ -10,12 +10,28 @@ ghost use Rattle.evc.specs.Planes.{planeOf};
 ghost use Rattle.evc.specs.Differences.{diffAt};
 ghost use Rattle.evc.specs.Calls.{diff16bNumber, diff16bExit};
 ghost use Rattle.plane_tests.specs.Blocks.{TwoBlocks, strided};
-ghost use Rattle.diff.specs.Small.{Writable, apartFrom};
+ghost use Rattle.block_rows.specs.Small.{Tested, apartFrom, blocksMarks};
 ghost use Rattle.diff.specs.Rests.{Differed};
 use evc::Answer;
 use evc::Refusal;
 
-// The differences of two blocks, row after row. Here and below the second block is packed.
+// The OR of two blocks, row by row. Here and below the second block is packed.
+fn any_rows(a: &[u16], a_at: usize, a_stride: usize, b: &[u16], w: usize, h: usize) -> u16
+    requires { ⌜ TwoBlocks w h (length (now a)) «a_at» «a_stride» (length (now b)) 0 w ⌝ }
+    ensures { λ r. ⌜ r ≡ blocksMarks w h (now (a .entry)) «a_at» «a_stride» (now (b .entry)) 0 w ⌝ }
+{
+    let mut any: u16 = 0;
+    for j in 0..h {
+        let p = a_at + j * a_stride;
+        let q = j * w;
+        let p_end = p + w;
+        let q_end = q + w;
+        any = any | block_rows::any_row(&a[p..p_end], &b[q..q_end]);
+    }
+    any
+}
+
+// The differences of two blocks, row after row.
 fn diff_rows(
     a: &[u16],
     a_at: usize,
@@ -25,13 +41,16 @@ fn diff_rows(
     h: usize,
     out: &mut [i16],
 )
-    requires { ⌜ Writable w h (now a) «a_at» «a_stride» (now b) 0 w (length (now out)) ⌝ }
+    requires { ⌜ Tested w h (now a) «a_at» «a_stride» (now b) 0 w ⌝ }
+    requires { ⌜ h * w ≤ length (now out) ⌝ }
     ensures { λ _. ⌜ now (out .exit) ≡ written (h * w) (diffAt w (apartFrom (now (a .entry)) «a_at» «a_stride» (now (b .entry)) 0 w)) (now (out .entry)) ⌝ }
 {
     for j in 0..h {
-        let from = j * w;
-        let to = from + w;
-        crate::rows::diff_row(a, a_at + j * a_stride, b, from, w, &mut out[from..to]);
+        let p = a_at + j * a_stride;
+        let q = j * w;
+        let p_end = p + w;
+        let q_end = q + w;
+        block_rows::diff_row(&a[p..p_end], &b[q..q_end], &mut out[q..q_end]);
     }
 }
 
@@ -50,7 +69,7 @@ fn of_width(
     requires { ⌜ (depth ≤ 14) × (h * w ≤ length (now out)) ⌝ }
     ensures { λ r. ⌜ Differed w h (strided (now (a .entry)) «a_at» «a_stride» depth) (strided (now (b .entry)) 0 w depth) (now (out .entry)) (answerNumber r) (now (out .exit)) ⌝ }
 {
-    let any = crate::rows::any_rows(a, a_at, a_stride, b, w, h);
+    let any = any_rows(a, a_at, a_stride, b, w, h);
     if any >> depth != 0 {
         return Answer::Refused(Refusal::Sample);
     }

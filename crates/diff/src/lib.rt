@@ -1,5 +1,4 @@
 // DIFF, after the Rust's enc/sad.rs: the differences of two blocks, written.
 mod diff;
-mod rows;
 
 pub use diff::evce_diff_16b;

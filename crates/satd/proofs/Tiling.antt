@@ -26,7 +26,7 @@ use Rattle.satd_tiles.proofs.Most.{number-most}
 use Rattle.integers.proofs.Parts.{abs-dif-le}
 use Rattle.plane_tests.specs.Blocks.{cell, rest}
 use Rattle.plane_tests.proofs.Replies.{Alike, dif-alike, at-size, at-depth, at-area, at-second, at-rest}
-use Rattle.diff.specs.Small.{Tested, apartFrom}
+use Rattle.block_rows.specs.Small.{Tested, apartFrom}
 use Rattle.satd.specs.Sides.{Side}
 
 -- ---- laws of the definitions

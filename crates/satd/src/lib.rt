@@ -1,6 +1,5 @@
 // SATD, after the Rust's enc/sad.rs: the differences of two blocks, summed tile by tile.
 mod any;
-mod rows;
 mod satd;
 mod sums;
 mod tiles2;

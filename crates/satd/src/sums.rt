@@ -4,7 +4,7 @@ ghost use mathlib.Core.Path.{_≡_};
 ghost use Prim.Native.Nat.{_/_};
 ghost use Rattle.integers.specs.Sum.{sumN};
 ghost use Rattle.evc.specs.Tiles.{tileNumber, tile, satdTotal};
-ghost use Rattle.diff.specs.Small.{Tested, apartFrom};
+ghost use Rattle.block_rows.specs.Small.{Tested, apartFrom};
 ghost use Rattle.satd.specs.Sides.{Side};
 
 // The number of one tile.

@@ -1,18 +1,18 @@
 -- `diff::diff::diff_rows` meets its contract. Assumes nothing.
-use mathlib.Core.Path.{_≡_, sym, ap, _∙_}
+use mathlib.Core.Path.{_≡_, sym, _∙_}
 use mathlib.Core.List.{List}
 use Prim.Native.Nat.{ℕ, _+_, _*_, _-_, _≤_}
-use native.Mathlib.Nat.{zero-add}
 use native.Mathlib.Omega.{arith}
-use lib.IntN.{ℤ, pos, _-ℤ_}
-use lib.ListN.{length, getD}
+use lib.IntN.{ℤ}
+use lib.ListN.{length}
 use Rattle.integers.specs.Lists.{tab}
 use Rattle.integers.proofs.Written.{tab-ext, grid-at}
 use Rattle.integers.proofs.Grid.{Wrote, wrote-start, wrote-row, wrote-end, wrote-long, row-room, row-long}
 use Rattle.evc.specs.Differences.{diffAt}
-use Rattle.plane_tests.specs.Blocks.{cell}
-use Rattle.diff.specs.Small.{SmallRow, apartFrom}
-use Rattle.diff.proofs.Tested.{small-one, small-packed}
+use Rattle.plane_tests.proofs.Planes.{in-one, in-two}
+use Rattle.block_rows.specs.Small.{apartFrom}
+use Rattle.block_rows.proofs.Cells.{row-part, packed-part}
+use Rattle.block_rows.proofs.Tested.{rows-apart}
 use Rattle.diff.proofs.diff.diff_rows.Statement.{statement}
 use Rattle.diff.proofs.diff.diff_rows.Tie as tie
 
@@ -24,33 +24,35 @@ abbrev μ-loop : tie.MeasureT-loop
 μ-loop a a-at a-stride b w h out₀ j₀ out j = h - j
 
 loop-holds : tie.Need-loop-holds Inv-loop μ-loop
-loop-holds c = wrote-start (c .before .before .pre .room)
+loop-holds c = wrote-start (c .before .before .pre .1)
 
--- row j has room in the output
-room : (c : tie.In-loop Inv-loop μ-loop) → c .before .loop .j * c .before .before .before .before .args .w + c .before .before .before .before .args .w ≤ length (c .before .loop .out)
+-- where row j of each block ends, and its room in the output
+one : (c : tie.In-loop Inv-loop μ-loop) → let a = c .before .before .before .before .args in a .a-at + c .before .loop .j * a .a-stride + a .w ≤ length (a .a .now)
+one c = in-one (c .before .before .before .before .pre .0 .blocks) (c .loop-test .taken)
+
+two : (c : tie.In-loop Inv-loop μ-loop) → let a = c .before .before .before .before .args in c .before .loop .j * a .w + a .w ≤ length (a .b .now)
+two c = omega (arith, in-two (c .before .before .before .before .pre .0 .blocks) (c .loop-test .taken))
+
+room : (c : tie.In-loop Inv-loop μ-loop) → let w = c .before .before .before .before .args .w in c .before .loop .j * w + w ≤ length (c .before .loop .out)
 room c = row-room (c .before .loop .inv) (c .loop-test .taken)
 
-mul-from : tie.Need-mul-from Inv-loop μ-loop
-mul-from c = omega (arith, room c, wrote-long (c .before .loop .inv), c .before .before .before .before .good)
+mul-p : tie.Need-mul-p Inv-loop μ-loop
+mul-p c = omega (arith, one c, c .before .before .before .before .good)
 
-add-to : tie.Need-add-to Inv-loop μ-loop
-add-to c = omega (arith, room c, wrote-long (c .before .loop .inv), c .before .before .before .before .good)
+add-p : tie.Need-add-p Inv-loop μ-loop
+add-p c = omega (arith, one c, c .before .before .before .before .good)
 
--- and row j of each block is tested
-one : (c : tie.In-loop Inv-loop μ-loop) → let a = c .before .before .before .before .args in SmallRow (a .w) (a .a .now) (a .a-at + c .before .loop .j * a .a-stride)
-one c = let k = c .before .before .before .before .pre in small-one (k .blocks) (k .small) (c .loop-test .taken)
+mul-q : tie.Need-mul-q Inv-loop μ-loop
+mul-q c = omega (arith, two c, c .before .before .before .before .good)
 
-two : (c : tie.In-loop Inv-loop μ-loop) → let a = c .before .before .before .before .args in SmallRow (a .w) (a .b .now) (c .before .loop .j * a .w)
-two c = let k = c .before .before .before .before .pre in small-packed (k .blocks) (k .small) (c .loop-test .taken)
+add-p-end : tie.Need-add-p-end Inv-loop μ-loop
+add-p-end c = omega (arith, one c, c .before .before .before .before .good)
+
+add-q-end : tie.Need-add-q-end Inv-loop μ-loop
+add-q-end c = omega (arith, two c, c .before .before .before .before .good)
 
 mul-diff-row : tie.Need-mul-diff-row Inv-loop μ-loop
-mul-diff-row c = omega (arith, one c .inside, c .before .before .before .before .good)
-
-add-diff-row : tie.Need-add-diff-row Inv-loop μ-loop
-add-diff-row c = omega (arith, one c .inside, c .before .before .before .before .good)
-
-mul-diff-row-2 : tie.Need-mul-diff-row-2 Inv-loop μ-loop
-mul-diff-row-2 c = omega (arith, room c, wrote-long (c .before .loop .inv), c .before .before .before .before .good)
+mul-diff-row c = omega (arith, one c, c .before .before .before .before .good)
 
 sub-diff-row : tie.Need-sub-diff-row Inv-loop μ-loop
 sub-diff-row c = omega arith
@@ -59,20 +61,39 @@ part-diff-row-start : tie.Need-part-diff-row-start Inv-loop μ-loop
 part-diff-row-start c = omega arith
 
 part-diff-row-end : tie.Need-part-diff-row-end Inv-loop μ-loop
-part-diff-row-end c = room c
+part-diff-row-end c = one c
+
+mul-diff-row-2 : tie.Need-mul-diff-row-2 Inv-loop μ-loop
+mul-diff-row-2 c = omega (arith, two (c .before), c .before .before .before .before .before .good)
+
+sub-diff-row-2 : tie.Need-sub-diff-row-2 Inv-loop μ-loop
+sub-diff-row-2 c = omega arith
+
+part-diff-row-start-2 : tie.Need-part-diff-row-start-2 Inv-loop μ-loop
+part-diff-row-start-2 c = omega arith
+
+part-diff-row-end-2 : tie.Need-part-diff-row-end-2 Inv-loop μ-loop
+part-diff-row-end-2 c = two (c .before)
+
+mul-diff-row-3 : tie.Need-mul-diff-row-3 Inv-loop μ-loop
+mul-diff-row-3 c = omega (arith, two (c .before .before), c .before .before .before .before .before .before .good)
+
+sub-diff-row-3 : tie.Need-sub-diff-row-3 Inv-loop μ-loop
+sub-diff-row-3 c = omega arith
+
+part-diff-row-start-3 : tie.Need-part-diff-row-start-3 Inv-loop μ-loop
+part-diff-row-start-3 c = omega arith
+
+part-diff-row-end-3 : tie.Need-part-diff-row-end-3 Inv-loop μ-loop
+part-diff-row-end-3 c = room (c .before .before)
 
 diff-row-requires : tie.Need-diff-row-requires Inv-loop μ-loop
-diff-row-requires c κs = ((one (c .before), two (c .before)), row-long (c .before .before .loop .inv) (c .before .loop-test .taken))
+diff-row-requires c κs = tt
 
--- what the row's differences are, by their places in the output
-placed :
-    (r : List ℤ) (a : List ℕ) (s t : ℕ) (b : List ℕ) (w j : ℕ) → r ≡ tab w (λ i. pos (getD a (s + j * t + i) 0) -ℤ pos (getD b (j * w + i) 0)) →
-    r ≡ tab w (λ i. diffAt w (apartFrom a s t b 0 w) (j * w + i))
-unfolding diffAt apartFrom cell
-placed r a s t b w j e =
-    let d = apartFrom a s t b 0 w in
-    e ∙ ap (λ (q : ℕ). tab w (λ i. pos (getD a (s + j * t + i) 0) -ℤ pos (getD b (q + i) 0))) (sym (zero-add (j * w)))
-    ∙ tab-ext w (d j) (λ i. diffAt w d (j * w + i)) (λ i m. sym (grid-at d j i w m))
+-- row j's differences, by their places in the output
+placed : (w j : ℕ) (d : ℕ → ℕ → ℤ) {r : List ℤ} → r ≡ tab w (d j) → r ≡ tab w (λ i. diffAt w d (j * w + i))
+unfolding diffAt
+placed w j d e = e ∙ tab-ext w (d j) (λ i. diffAt w d (j * w + i)) (λ i m. sym (grid-at d j i w m))
 
 add-j : tie.Need-add-j Inv-loop μ-loop
 add-j c = omega arith
@@ -82,10 +103,15 @@ loop-less c = omega arith
 
 loop-again : tie.Need-loop-again Inv-loop μ-loop
 loop-again c =
-    let a = c .before .before .before .before .before .before .before .args in
-    let r = c .before .diff-row .last .1 .1 .1 .1 .1 .0 in
-    wrote-row (c .before .before .before .before .loop .inv) (c .before .before .before .loop-test .taken) r
-    (placed r (a .a .now) (a .a-at) (a .a-stride) (a .b .now) (a .w) (c .before .before .before .before .loop .j) (c .before .diff-row .ensures))
+    let i = c .before .before .before .before .before in
+    let l = i .before in
+    let s = l .before .before .before in
+    let a = s .args in
+    let m = i .loop-test .taken in
+    wrote-row (l .loop .inv) m (c .before .diff-row .last .1 .1 .0)
+    (placed (a .w) (l .loop .j) (apartFrom (a .a .now) (a .a-at) (a .a-stride) (a .b .now) 0 (a .w))
+    (rows-apart (a .a .now) (a .a-at) (a .a-stride) (a .b .now) 0 (a .w) (a .w) m (row-part (a .a .now) (a .a-at) (a .a-stride) (l .loop .j) (a .w))
+    (packed-part (a .b .now) (l .loop .j) (a .w)) (s .pre .0 .small) (row-long (l .loop .inv) m) (c .before .diff-row .ensures)))
 
 same-length : tie.Need-same-length Inv-loop μ-loop
 same-length c = wrote-long (c .before .loop .inv)
@@ -100,14 +126,23 @@ diff-rows-spec =
     Inv-loop
     μ-loop
     loop-holds
-    mul-from
-    add-to
+    mul-p
+    add-p
+    mul-q
+    add-p-end
+    add-q-end
     mul-diff-row
-    add-diff-row
-    mul-diff-row-2
     sub-diff-row
     part-diff-row-start
     part-diff-row-end
+    mul-diff-row-2
+    sub-diff-row-2
+    part-diff-row-start-2
+    part-diff-row-end-2
+    mul-diff-row-3
+    sub-diff-row-3
+    part-diff-row-start-3
+    part-diff-row-end-3
     diff-row-requires
     add-j
     loop-less

@@ -16,8 +16,8 @@ use Rattle.plane_tests.specs.Areas.{outsidePlane}
 use Rattle.plane_tests.specs.Blocks.{TwoBlocks}
 use Rattle.plane_tests.proofs.Planes.{is-inside, rows-inside, plane-alike}
 use Rattle.plane_tests.proofs.SmallSides.{logs-small, side-small, shifted, shifted-is}
-use Rattle.diff.proofs.Differing.{differed-alike, diff-size, diff-depth, diff-area, diff-rest}
-use Rattle.diff.proofs.Tested.{areas-found}
+use Rattle.diff.proofs.diff.Differing.{differed-alike, diff-size, diff-depth, diff-area, diff-rest}
+use Rattle.block_rows.proofs.Tested.{areas-found}
 use Rattle.diff.proofs.diff.evce_diff_16b.Statement.{statement}
 use Rattle.diff.proofs.diff.evce_diff_16b.Tie as tie
 

@@ -1,7 +1,7 @@
 -- `diff::diff::of_blocks` meets its contract. Assumes nothing.
 use mathlib.Core.Path.{refl}
 use borrow.Author.Needs.{needs}
-use Rattle.diff.proofs.Tested.{sides-asked, sides-left}
+use Rattle.diff.proofs.diff.Sides.{sides-asked, sides-left}
 use Rattle.diff.proofs.diff.of_blocks.Statement.{statement}
 use Rattle.diff.proofs.diff.of_blocks.Tie as tie
 

@@ -1,7 +1,7 @@
 -- `diff::diff::of_four` meets its contract. Assumes nothing.
 use mathlib.Core.Path.{refl}
 use borrow.Author.Needs.{needs}
-use Rattle.diff.proofs.Tested.{sides-asked, sides-left}
+use Rattle.diff.proofs.diff.Sides.{sides-asked, sides-left}
 use Rattle.diff.proofs.diff.of_four.Statement.{statement}
 use Rattle.diff.proofs.diff.of_four.Tie as tie
 

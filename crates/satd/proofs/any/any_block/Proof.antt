@@ -4,7 +4,7 @@ use mathlib.Core.List.{List}
 use Prim.Native.Nat.{ℕ}
 use borrow.Author.Needs.{needs}
 use Rattle.plane_tests.specs.Blocks.{TwoBlocks}
-use Rattle.diff.specs.Small.{blocksMarks}
+use Rattle.block_rows.specs.Small.{blocksMarks}
 use Rattle.satd.proofs.any.any_block.Statement.{statement}
 use Rattle.satd.proofs.any.any_block.Tie as tie
 

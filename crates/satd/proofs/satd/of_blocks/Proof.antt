@@ -1,51 +1,21 @@
 -- `satd::satd::of_blocks` meets its contract: the differences that are formed were tested. Assumes nothing.
-use mathlib.Core.Path.{_≡_, refl, sym, ap, ap₂, subst, _∙_}
-use mathlib.Core.Bool.{Bool, true, false}
-use mathlib.Core.List.{[], _∷_}
-use Prim.Native.Nat.{ℕ, _-_, _/_, _^_, _≤_}
-use native.Mathlib.Nat.{le-trans, div-le-self}
+use mathlib.Core.Path.{_≡_, sym, ap, ap₂, subst, _∙_}
+use Prim.Native.Nat.{ℕ, _-_, _/_, _^_}
+use native.Mathlib.Nat.{div-le-self}
 use native.Mathlib.Omega.{arith}
-use lib.Dec.{leb}
 use lib.IntN.{ℤ}
-use lib.Pow.{pow-mono}
 use borrow.Author.Needs.{needs}
-use borrow.Author.Tests.{le-leb, lt-leb}
-use Rattle.evc.specs.declared.Refusal.the-variants.{Sample}
-use Rattle.integers.proofs.Bits.{div-some, div-none}
-use Rattle.evc.specs.Tests.{_when_, first, reply}
-use Rattle.evc.specs.Calls.{sampleTests}
+use Rattle.evc.specs.Answers.{Reply}
+use Rattle.evc.specs.Tests.{reply}
 use Rattle.evc.specs.Differences.{difference}
 use Rattle.evc.specs.Tiles.{tileSide, satdTotal}
-use Rattle.evc.proofs.Marks.{below-all}
-use Rattle.plane_tests.specs.Blocks.{cell, strided, rest}
-use Rattle.plane_tests.proofs.Replies.{marked-first}
-use Rattle.diff.specs.Small.{SmallBlocks, Tested, apartFrom}
+use Rattle.plane_tests.specs.Blocks.{strided, rest}
+use Rattle.block_rows.specs.Small.{Tested, apartFrom}
+use Rattle.block_rows.proofs.Tested.{some-marked, none-marked, none-small}
 use Rattle.satd.specs.Sides.{Side}
 use Rattle.satd.proofs.Tiling.{side-is, satd-fits}
 use Rattle.satd.proofs.satd.of_blocks.Statement.{statement}
 use Rattle.satd.proofs.satd.of_blocks.Tie as tie
-
--- the number of SAMPLE, by the OR of all samples
-sampled :
-    (c : tie.After-any-block) (t : Bool) →
-    let a = c .before .before .before .args in
-    leb (2 ^ a .depth) (c .any-block .result) ≡ t →
-    first ((Sample when t) ∷ []) ≡ first (sampleTests (a .w) (a .h) (strided (a .a .now) (a .a-at) (a .a-stride) (a .depth)) (strided (a .b .now) 0 (a .w) (a .depth)))
-sampled c t e =
-    let a = c .before .before .before .args in
-    ap (λ (u : Bool). first ((Sample when u) ∷ [])) (sym e)
-    ∙ marked-first (a .w) (a .h) (a .depth) (strided (a .a .now) (a .a-at) (a .a-stride) (a .depth)) (strided (a .b .now) 0 (a .w) (a .depth))
-    (cell 0 (a .a .now) (a .a-at) (a .a-stride)) (cell 0 (a .b .now) 0 (a .w)) (λ j i. refl) (λ j i. refl) (c .any-block .ensures)
-
--- a depth of at most 14 and no sample that reaches it: each sample is below 2^14
-small : (c : tie.Else1) → let a = c .before .before .before .before .args in SmallBlocks (a .w) (a .h) (a .a .now) (a .a-at) (a .a-stride) (a .b .now) 0 (a .w)
-small c =
-    let s = c .before .before .before .before in
-    let a = s .args in
-    let t = c .before .any-block in
-    let p : 2 ^ a .depth ≤ 2 ^ 14 = pow-mono (s .pre .1 .1) in
-    let each = below-all (a .w) (a .h) (a .depth) (cell 0 (a .a .now) (a .a-at) (a .a-stride)) (cell 0 (a .b .now) 0 (a .w)) (t .result) (t .ensures) (div-none (t .result) (a .depth) (c .if1 .left)) in
-    record { first = λ j i m n. le-trans (each j i m n .0) p; second = λ j i m n. le-trans (each j i m n .1) p }
 
 any-block-requires : tie.Need-any-block-requires
 any-block-requires c κs = search needs
@@ -53,13 +23,16 @@ any-block-requires c κs = search needs
 shr-if1 : tie.Need-shr-if1
 shr-if1 c = search needs
 
+-- what is answered by the number of SAMPLE, n
+abbrev answered : tie.Start → ℕ → Reply ℕ
+answered s n =
+    let a = s .args in
+    let d = difference (strided (a .a .now) (a .a-at) (a .a-stride) (a .depth)) (strided (a .b .now) 0 (a .w) (a .depth)) in
+    reply n (satdTotal (tileSide (a .w) (a .h)) (a .w) (a .h) d / 2 ^ (a .depth - 8))
+
 returns : tie.Need-returns
 unfolding rest
-returns c =
-    let a = c .before .before .before .before .args in
-    let t = c .before .any-block .result in
-    ap (λ (n : ℕ). reply n (satdTotal (tileSide (a .w) (a .h)) (a .w) (a .h) (difference (strided (a .a .now) (a .a-at) (a .a-stride) (a .depth)) (strided (a .b .now) 0 (a .w) (a .depth))) / 2 ^ (a .depth - 8)))
-    (sampled (c .before) true (le-leb (2 ^ a .depth) t (div-some t (a .depth) (c .if1 .taken))))
+returns c = ap (answered (c .before .before .before .before)) (some-marked _ _ _ _ _ _ _ _ _ (c .before .any-block .ensures) (c .if1 .taken))
 
 side-requires : tie.Need-side-requires
 side-requires c κs = search needs
@@ -68,7 +41,10 @@ side-requires c κs = search needs
 tested :
     (c : tie.After-side) →
     let a = c .before .before .before .before .before .args in Tested (a .w) (a .h) (a .a .now) (a .a-at) (a .a-stride) (a .b .now) 0 (a .w)
-tested c = record { blocks = c .before .before .before .before .before .pre .0; small = small (c .before) }
+tested c =
+    let e = c .before in
+    let k = e .before .before .before .before .pre in
+    record { blocks = k .0; small = none-small _ _ _ _ _ _ _ _ _ (e .before .any-block .ensures) (k .1 .1) (e .if1 .left) }
 
 total-requires : tie.Need-total-requires
 total-requires c κs =
@@ -110,10 +86,8 @@ returns-2 : tie.Need-returns-2
 unfolding rest apartFrom
 returns-2 c =
     let e = c .before .before in
-    let a = e .before .before .before .before .args in
-    let t = e .before .any-block .result in
-    ap₂ (λ (n m : ℕ). reply n (m / 2 ^ (a .depth - 8)))
-    (sampled (e .before) false (lt-leb (2 ^ a .depth) t (div-none t (a .depth) (e .if1 .left)))) (summed c)
+    ap₂ (λ (n m : ℕ). reply n (m / 2 ^ (e .before .before .before .before .args .depth - 8)))
+    (none-marked _ _ _ _ _ _ _ _ _ (e .before .any-block .ensures) (e .if1 .left)) (summed c)
 
 pub of-blocks-spec : {M : Type 1} → statement M
 of-blocks-spec =

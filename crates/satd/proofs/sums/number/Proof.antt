@@ -5,7 +5,7 @@ use mathlib.Core.List.{List}
 use Prim.Native.Nat.{ℕ}
 use lib.IntN.{ℤ}
 use Rattle.evc.specs.Tiles.{tileNumber}
-use Rattle.diff.specs.Small.{Tested, apartFrom}
+use Rattle.block_rows.specs.Small.{Tested, apartFrom}
 use Rattle.satd.specs.Sides.{Side}
 use Rattle.satd.proofs.sums.number.Statement.{statement}
 use Rattle.satd.proofs.sums.number.Tie as tie

@@ -1,14 +1,17 @@
 -- `satd::tiles2::number` meets its contract. Assumes nothing.
+-- Written by tools/tiles.py, from the tiles of 8 by 8.
 use mathlib.Core.Path.{refl}
 use mathlib.Core.List.{List, []}
-use Prim.Native.Nat.{_+_, _*_, _-_}
+use Prim.Native.Nat.{_+_, _*_, _-_, _≤_}
 use native.Mathlib.Omega.{arith}
 use lib.IntN.{ℤ}
+use lib.ListN.{length}
 use Rattle.integers.specs.Lists.{tab}
 use Rattle.integers.proofs.Loop.{Filled, filled-start, filled-step, filled-end}
-use Rattle.plane_tests.specs.Blocks.{cell}
-use Rattle.diff.specs.Small.{SmallRow, apartFrom}
-use Rattle.diff.proofs.Tested.{small-one, small-two}
+use Rattle.plane_tests.proofs.Planes.{in-one, in-two}
+use Rattle.block_rows.specs.Small.{apartFrom}
+use Rattle.block_rows.proofs.Cells.{row-part}
+use Rattle.block_rows.proofs.Tested.{rows-apart}
 use Rattle.satd.proofs.Tiling.{number-of}
 use Rattle.satd.proofs.tiles2.number.Statement.{statement}
 use Rattle.satd.proofs.tiles2.number.Tie as tie
@@ -22,33 +25,66 @@ abbrev μ-loop : tie.MeasureT-loop
 loop-holds : tie.Need-loop-holds Inv-loop μ-loop
 loop-holds c = filled-start refl
 
--- row j of each block is tested
-one : (c : tie.In-loop Inv-loop μ-loop) → let a = c .before .before .before .before .args in SmallRow 2 (a .a .now) (a .a-at + c .before .loop .j * a .a-stride)
-one c = let k = c .before .before .before .before .pre in small-one (k .blocks) (k .small) (c .loop-test .taken)
+-- where row j of each block ends
+one : (c : tie.In-loop Inv-loop μ-loop) → let a = c .before .before .before .before .args in a .a-at + c .before .loop .j * a .a-stride + 2 ≤ length (a .a .now)
+one c = in-one (c .before .before .before .before .pre .blocks) (c .loop-test .taken)
 
-two : (c : tie.In-loop Inv-loop μ-loop) → let a = c .before .before .before .before .args in SmallRow 2 (a .b .now) (a .b-at + c .before .loop .j * a .b-stride)
-two c = let k = c .before .before .before .before .pre in small-two (k .blocks) (k .small) (c .loop-test .taken)
+two : (c : tie.In-loop Inv-loop μ-loop) → let a = c .before .before .before .before .args in a .b-at + c .before .loop .j * a .b-stride + 2 ≤ length (a .b .now)
+two c = in-two (c .before .before .before .before .pre .blocks) (c .loop-test .taken)
 
-mul-row : tie.Need-mul-row Inv-loop μ-loop
-mul-row c = omega (arith, one c .inside, c .before .before .before .before .good)
+mul-p : tie.Need-mul-p Inv-loop μ-loop
+mul-p c = omega (arith, one c, c .before .before .before .before .good)
 
-add-row : tie.Need-add-row Inv-loop μ-loop
-add-row c = omega (arith, one c .inside, c .before .before .before .before .good)
+add-p : tie.Need-add-p Inv-loop μ-loop
+add-p c = omega (arith, one c, c .before .before .before .before .good)
 
-mul-row-2 : tie.Need-mul-row-2 Inv-loop μ-loop
-mul-row-2 c = omega (arith, two c .inside, c .before .before .before .before .good)
+mul-q : tie.Need-mul-q Inv-loop μ-loop
+mul-q c = omega (arith, two c, c .before .before .before .before .good)
 
-add-row-2 : tie.Need-add-row-2 Inv-loop μ-loop
-add-row-2 c = omega (arith, two c .inside, c .before .before .before .before .good)
+add-q : tie.Need-add-q Inv-loop μ-loop
+add-q c = omega (arith, two c, c .before .before .before .before .good)
 
-row-requires : tie.Need-row-requires Inv-loop μ-loop
-row-requires c κs = (one c, two c)
+add-p-end : tie.Need-add-p-end Inv-loop μ-loop
+add-p-end c = omega (arith, one c, c .before .before .before .before .good)
+
+add-q-end : tie.Need-add-q-end Inv-loop μ-loop
+add-q-end c = omega (arith, two c, c .before .before .before .before .good)
+
+mul-diff-row : tie.Need-mul-diff-row Inv-loop μ-loop
+mul-diff-row c = omega (arith, one c, c .before .before .before .before .good)
+
+sub-diff-row : tie.Need-sub-diff-row Inv-loop μ-loop
+sub-diff-row c = omega arith
+
+part-diff-row-start : tie.Need-part-diff-row-start Inv-loop μ-loop
+part-diff-row-start c = omega arith
+
+part-diff-row-end : tie.Need-part-diff-row-end Inv-loop μ-loop
+part-diff-row-end c = one c
+
+mul-diff-row-2 : tie.Need-mul-diff-row-2 Inv-loop μ-loop
+mul-diff-row-2 c = omega (arith, two (c .before), c .before .before .before .before .before .good)
+
+sub-diff-row-2 : tie.Need-sub-diff-row-2 Inv-loop μ-loop
+sub-diff-row-2 c = omega arith
+
+part-diff-row-start-2 : tie.Need-part-diff-row-start-2 Inv-loop μ-loop
+part-diff-row-start-2 c = omega arith
+
+part-diff-row-end-2 : tie.Need-part-diff-row-end-2 Inv-loop μ-loop
+part-diff-row-end-2 c = two (c .before)
+
+slice-aggregate-diff-row : tie.Need-slice-aggregate-diff-row Inv-loop μ-loop
+slice-aggregate-diff-row c = refl
+
+diff-row-requires : tie.Need-diff-row-requires Inv-loop μ-loop
+diff-row-requires c κs = tt
 
 mul-out : tie.Need-mul-out Inv-loop μ-loop
 mul-out c = omega arith
 
 array-set-from-out : tie.Need-array-set-from-out Inv-loop μ-loop
-array-set-from-out c = omega arith
+array-set-from-out c = c .before .before .before .before .before .loop-test .taken
 
 add-j : tie.Need-add-j Inv-loop μ-loop
 add-j c = omega arith
@@ -57,8 +93,15 @@ loop-less : tie.Need-loop-less Inv-loop μ-loop
 loop-less c = omega arith
 
 loop-again : tie.Need-loop-again Inv-loop μ-loop
-unfolding apartFrom cell
-loop-again c = filled-step (c .before .before .loop .inv) (omega arith) (c .row .ensures)
+loop-again c =
+    let i = c .before .before .before .before .before in
+    let l = i .before in
+    let s = l .before .before .before in
+    let a = s .args in
+    let m = i .loop-test .taken in
+    filled-step (l .loop .inv) m
+    (rows-apart (a .a .now) (a .a-at) (a .a-stride) (a .b .now) (a .b-at) (a .b-stride) 2 m (row-part (a .a .now) (a .a-at) (a .a-stride) (l .loop .j) 2)
+    (row-part (a .b .now) (a .b-at) (a .b-stride) (l .loop .j) 2) (s .pre .small) refl (c .before .diff-row .ensures))
 
 evc-had-2x2-requires : tie.Need-evc-had-2x2-requires Inv-loop μ-loop
 evc-had-2x2-requires c κs = tt
@@ -73,11 +116,22 @@ number-spec =
     Inv-loop
     μ-loop
     loop-holds
-    mul-row
-    add-row
-    mul-row-2
-    add-row-2
-    row-requires
+    mul-p
+    add-p
+    mul-q
+    add-q
+    add-p-end
+    add-q-end
+    mul-diff-row
+    sub-diff-row
+    part-diff-row-start
+    part-diff-row-end
+    mul-diff-row-2
+    sub-diff-row-2
+    part-diff-row-start-2
+    part-diff-row-end-2
+    slice-aggregate-diff-row
+    diff-row-requires
     mul-out
     array-set-from-out
     add-j

@@ -1,3 +1,0 @@
--- Laws that several proofs of this crate need.
-pub mod Tested
-pub mod Differing

@@ -1,0 +1,3 @@
+-- Laws that several proofs of src/diff.rt need.
+pub mod Sides
+pub mod Differing
