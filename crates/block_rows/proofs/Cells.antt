@@ -36,6 +36,14 @@ module _ {A : Type 0} (l : List A) (s t j w : ℕ) where
   pub part-at : (d : A) (i : ℕ) → i < w → getD (take (s + j * t + w - (s + j * t)) (drop (s + j * t) l)) i d ≡ cell d l s t j i
   part-at d i h = ap (λ (r : List A). getD r i d) row-part ∙ row-at d i h
 
+-- of packed rows
+pub packed-part : {A : Type 0} (l : List A) (j w : ℕ) → take (j * w + w - j * w) (drop (j * w) l) ≡ rowOf l 0 w j w
+unfolding rowOf
+packed-part l j w =
+    let e : j * w + w - j * w ≡ w = omega arith in
+    let f : j * w ≡ 0 + j * w = omega arith in
+    ap₂ (λ (n m : ℕ). take n (drop m l)) e f
+
 -- two such parts are rows of as many values as the blocks are wide
 pub two-parts :
     {A B : Type 0} (a : List A) (b : List B) {w h s t s′ t′ j : ℕ} → TwoBlocks w h (length a) s t (length b) s′ t′ → j < h →
