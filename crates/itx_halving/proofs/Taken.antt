@@ -21,7 +21,7 @@ use Rattle.itx_halving.specs.Taken.{takes, Call, takesOne, takesTwo, don
 use Rattle.itx_halving.proofs.Lines.{rooms, stage-end}
 
 -- ---- the guard: the limits are tested as one
-leb-not : (x y : ℕ) → leb x y ≡ not (ltb y x)
+pub leb-not : (x y : ℕ) → leb x y ≡ not (ltb y x)
 leb-not x y = go (ltb y x) refl
   where
     go : (t : Bool) → ltb y x ≡ t → leb x y ≡ not t
@@ -88,19 +88,26 @@ call-rooms {a = a} {b = b} w = rooms a b _ (lines w) (w .src-room) (w .dst-room)
 
 -- ---- what it shows at its end. The guard's number is stage two's, whose test of shift 0 always passes
 module _ (lo hi least a b : ℕ) (src dst : List ℤ) where
-  pub one-did : {d : List ℤ} → takes lo hi least a b (stageTwoNumber (length src) (length dst) a b 0) ≡ true → d ≡ written (2 ^ a * ((1 * 2 ^ b) % 2 ^ 64)) (stageOneAt (tm (2 ^ a)) (2 ^ a) ((1 * 2 ^ b) % 2 ^ 64) src) dst → (true ≡ takesOne lo hi least a b src dst) × (d ≡ doneOne true a b src dst)
+  pub one-did : {d : List ℤ} → takes lo hi least a b (stageTwoNumber (length src) (length dst) a b 0) ≡ true
+      → d ≡ written (2 ^ a * ((1 * 2 ^ b) % 2 ^ 64)) (stageOneAt (tm (2 ^ a)) (2 ^ a) ((1 * 2 ^ b) % 2 ^ 64) src) dst
+      → (true ≡ takesOne lo hi least a b src dst) × (d ≡ doneOne true a b src dst)
   unfolding stageOneNumber stageTwoNumber stageOneExit
   one-did g p =
-      (sym g, rw (takes-accepted lo hi least a b _ g) (stage-end (λ l. stageOneAt (tm (2 ^ a)) (2 ^ a) l src) dst a b _ (one-shl w64 b (omega (arith, call {n = length src} {m = length dst} {shift = 0} g .line-most))) p))
+      let w = call {n = length src} {m = length dst} {shift = 0} g in
+      (sym g, rw (takes-accepted lo hi least a b _ g) (stage-end (λ l. stageOneAt (tm (2 ^ a)) (2 ^ a) l src) dst a b _ (lines w) p))
 
   pub one-left : takes lo hi least a b (stageTwoNumber (length src) (length dst) a b 0) ≡ false → (false ≡ takesOne lo hi least a b src dst) × (dst ≡ doneOne false a b src dst)
   unfolding stageOneNumber stageTwoNumber
   one-left g = (sym g, refl)
 
-  pub two-did : {d : List ℤ} (shift : ℕ) → takes lo hi least a b (stageTwoNumber (length src) (length dst) a b shift) ≡ true → d ≡ written (2 ^ a * ((1 * 2 ^ b) % 2 ^ 64)) (stageTwoAt (tm (2 ^ a)) (2 ^ a) ((1 * 2 ^ b) % 2 ^ 64) shift src) dst → (true ≡ takesTwo lo hi least a b shift src dst) × (d ≡ doneTwo true a b shift src dst)
+  pub two-did : {d : List ℤ} (shift : ℕ) → takes lo hi least a b (stageTwoNumber (length src) (length dst) a b shift) ≡ true
+      → d ≡ written (2 ^ a * ((1 * 2 ^ b) % 2 ^ 64)) (stageTwoAt (tm (2 ^ a)) (2 ^ a) ((1 * 2 ^ b) % 2 ^ 64) shift src) dst
+      → (true ≡ takesTwo lo hi least a b shift src dst) × (d ≡ doneTwo true a b shift src dst)
   unfolding stageTwoExit
   two-did shift g p =
-      (sym g, rw (takes-accepted lo hi least a b _ g) (stage-end (λ l. stageTwoAt (tm (2 ^ a)) (2 ^ a) l shift src) dst a b _ (one-shl w64 b (omega (arith, call {n = length src} {m = length dst} g .line-most))) p))
+      let w = call {n = length src} {m = length dst} g in
+      (sym g, rw (takes-accepted lo hi least a b _ g) (stage-end (λ l. stageTwoAt (tm (2 ^ a)) (2 ^ a) l shift src) dst a b _ (lines w) p))
 
-  pub two-left : (shift : ℕ) → takes lo hi least a b (stageTwoNumber (length src) (length dst) a b shift) ≡ false → (false ≡ takesTwo lo hi least a b shift src dst) × (dst ≡ doneTwo false a b shift src dst)
+  pub two-left : (shift : ℕ) → takes lo hi least a b (stageTwoNumber (length src) (length dst) a b shift) ≡ false
+      → (false ≡ takesTwo lo hi least a b shift src dst) × (dst ≡ doneTwo false a b shift src dst)
   two-left shift g = (sym g, refl)

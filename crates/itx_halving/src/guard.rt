@@ -22,9 +22,8 @@ pub fn takes(
     if (log2_size < lo) | (hi < log2_size) | (log2_line < least) {
         return false;
     }
-    if let Verdict::Passed = stage_two(n, m, log2_size, log2_line, shift) {
-        true
-    } else {
-        false
+    if let Verdict::Broken(_) = stage_two(n, m, log2_size, log2_line, shift) {
+        return false;
     }
+    true
 }

@@ -16,10 +16,11 @@ pub fn stage_two(src: usize, dst: usize, log2_size: usize, log2_line: usize, shi
         return Verdict::Broken(Refusal::Shift);
     }
     let n = 1usize << (log2_size + log2_line);
-    if (src < n) | (dst < n) {
-        return Verdict::Broken(Refusal::Area);
+    if (n <= src) & (n <= dst) {
+        Verdict::Passed
+    } else {
+        Verdict::Broken(Refusal::Area)
     }
-    Verdict::Passed
 }
 
 // Stage one has stage two's tests but for the shift, so that its own are those with a shift that breaks none.

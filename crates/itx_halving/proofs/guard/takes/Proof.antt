@@ -39,18 +39,18 @@ module _ (c : tie.After-stage-two) where
 enum-told : tie.Need-enum-told
 enum-told c = search needs
 
-enum-told-2 : tie.Need-enum-told-2
-enum-told-2 c = search needs
-
 returns-2 : tie.Need-returns-2
 returns-2 c =
     let k = c .before .before in
-    tested k true (sym (eq-eqb (number k) 0 (sym (k .stage-two .ensures) ∙ is-passed (k .stage-two .result) (c .before .match .keys1))))
+    tested k false (sym (never-true _ (λ t. is-broken (k .stage-two .result) (c .before .match .keys1) (k .stage-two .ensures ∙ eqb-true (number k) 0 t))))
+
+enum-told-2 : tie.Need-enum-told-2
+enum-told-2 c = search needs
 
 returns-3 : tie.Need-returns-3
 returns-3 c =
     let k = c .before .before in
-    tested k false (sym (never-true _ (λ t. is-broken (k .stage-two .result) (c .before .match .keys2) (k .stage-two .ensures ∙ eqb-true (number k) 0 t))))
+    tested k true (sym (eq-eqb (number k) 0 (sym (k .stage-two .ensures) ∙ is-passed (k .stage-two .result) (c .before .match .keys2))))
 
 pub takes-spec : {M : Type 1} → statement M
-takes-spec = tie.close (tie.spec returns stage-two-requires enum-told enum-told-2 returns-2 returns-3)
+takes-spec = tie.close (tie.spec returns stage-two-requires enum-told returns-2 enum-told-2 returns-3)

@@ -39,10 +39,10 @@ shl-n : tie.Need-shl-n
 shl-n c = omega (arith, sum (c .before))
 
 returns-3 : tie.Need-returns-3
-returns-3 c = stage-area _ _ _ _ _ (c .before .before .if1 .left) (c .before .if2 .left) _ (sized (c .before .before)) (c .if3 .taken)
+returns-3 c = stage-none _ _ _ _ _ (c .before .before .if1 .left) (c .before .if2 .left) _ (sized (c .before .before)) (c .if3 .taken)
 
 returns-4 : tie.Need-returns-4
-returns-4 c = stage-none _ _ _ _ _ (c .before .before .if1 .left) (c .before .if2 .left) _ (sized (c .before .before)) (c .if3 .left)
+returns-4 c = stage-area _ _ _ _ _ (c .before .before .if1 .left) (c .before .if2 .left) _ (sized (c .before .before)) (c .if3 .left)
 
 pub stage-two-spec : {M : Type 1} → statement M
 stage-two-spec = tie.close (tie.spec returns returns-2 add-n shl-n returns-3 returns-4)
