@@ -117,6 +117,7 @@ fn of_blocks(
         16 => of_width(a, a_at, a_stride, b, 16, h, depth, out),
         8 => of_width(a, a_at, a_stride, b, 8, h, depth, out),
         4 => of_four(a, a_at, a_stride, b, h, depth, out),
+        2 => of_width(a, a_at, a_stride, b, 2, h, depth, out),
         _ => of_width(a, a_at, a_stride, b, w, h, depth, out),
     }
 }

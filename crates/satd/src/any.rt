@@ -38,6 +38,7 @@ pub(crate) fn any_block(
         16 => any_rows(a, a_at, a_stride, b, 16, h),
         8 => any_rows(a, a_at, a_stride, b, 8, h),
         4 => any_rows(a, a_at, a_stride, b, 4, h),
+        2 => any_rows(a, a_at, a_stride, b, 2, h),
         _ => any_rows(a, a_at, a_stride, b, w, h),
     }
 }

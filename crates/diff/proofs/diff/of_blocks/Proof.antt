@@ -18,7 +18,10 @@ of-four-requires : tie.Need-of-four-requires
 of-four-requires c κs = sides-asked (c .before .match .keys4) refl (c .before .before .before .before .pre)
 
 of-width-requires-4 : tie.Need-of-width-requires-4
-of-width-requires-4 c κs = search needs
+of-width-requires-4 c κs = sides-asked (c .before .match .keys5) refl (c .before .before .before .before .pre)
+
+of-width-requires-5 : tie.Need-of-width-requires-5
+of-width-requires-5 c κs = search needs
 
 same-length : tie.Need-same-length
 same-length c = search needs
@@ -48,7 +51,13 @@ same-length-5 : tie.Need-same-length-5
 same-length-5 c = search needs
 
 returns-5 : tie.Need-returns-5
-returns-5 c = search needs
+returns-5 c = sides-left _ _ (c .before .before .before .match .keys5) refl (c .before .of-width4 .ensures)
+
+same-length-6 : tie.Need-same-length-6
+same-length-6 c = search needs
+
+returns-6 : tie.Need-returns-6
+returns-6 c = search needs
 
 pub of-blocks-spec : {M : Type 1} → statement M
 of-blocks-spec =
@@ -59,6 +68,7 @@ of-blocks-spec =
     of-width-requires-3
     of-four-requires
     of-width-requires-4
+    of-width-requires-5
     same-length
     returns
     same-length-2
@@ -68,4 +78,6 @@ of-blocks-spec =
     same-length-4
     returns-4
     same-length-5
-    returns-5)
+    returns-5
+    same-length-6
+    returns-6)
