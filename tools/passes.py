@@ -1,14 +1,15 @@
 #!/usr/bin/env python3
-"""Writes the proofs of the crate `hadamard` that are long and the same but for a side or a name: `line` of 4 and `half` of 8, one line a need from
-the butterflies and the puts, and both passes of both sides.
+"""Writes the proofs of the crate `satd_tiles` that are long and the same but for a side or a name: `line` of 4 and `half` of 8, one line a need from
+the butterflies and the puts; both passes of both sides; and what the smaller tiles have as those of 8 by 8, of which only the side and its bounds differ.
 
     tools/passes.py            writes the files, in the layout of `rt fmt`
     tools/passes.py --check    writes nothing; fails where a file differs from what would be written
 """
+import re
 import sys
 from pathlib import Path
 
-CRATE = Path(__file__).resolve().parent.parent / "crates" / "hadamard"
+CRATE = Path(__file__).resolve().parent.parent / "crates" / "satd_tiles"
 
 # what each local adds (+) or subtracts (-), and each coefficient
 LOCALS = "a0=x0+x2 a1=x1+x3 a2=x0-x2 a3=x1-x3"
@@ -22,6 +23,33 @@ def operation(formula):
     return word, f"{word} {term(left)} {term(right)}"
 
 
+class Places:
+    """The places before c that an answer names: those from the fourth on by a let for each four, so that no chain is long."""
+
+    def __init__(self, c="c"):
+        self.c, self.lets = c, {}
+
+    def __call__(self, back):
+        fours, rest = divmod(back, 4)
+        for k in range(1, fours + 1):
+            self.lets[k] = f"let c{4 * k} = {self.name(k - 1)} .before .before .before .before in"
+        return self.name(fours) + " .before" * rest
+
+    def name(self, fours):
+        return f"c{4 * fours}" if fours else self.c
+
+    def __iter__(self):
+        return iter(self.lets[k] for k in sorted(self.lets))
+
+
+# an equation: in one line where nothing is let and it fits, else below its left side
+def equation(left, lets, right):
+    lines = [*lets, *(right if isinstance(right, list) else [right])]
+    if len(lines) == 1 and len(left) + len(lines[0]) < 150:
+        return [f"{left} = {lines[0]}"]
+    return [f"{left} =", *(f"    {line}" for line in lines)]
+
+
 # a name with its number, where it isn't the first
 def count(seen, word):
     seen[word] = seen.get(word, 0) + 1
@@ -31,10 +59,10 @@ def count(seen, word):
 def butterflies(side, name):
     half = name == "half"
     module = f"had_{side}x{side}"
-    here = f"Rattle.hadamard.proofs.{module}.{name}"
+    here = f"Rattle.satd_tiles.proofs.{module}.{name}"
     steps = [(local, *operation(formula)) for local, formula in (t.split("=") for t in LOCALS.split())]
     out = [
-        f"-- `hadamard::{module}::{name}` meets its contract: each local is an expression of the line's numbers. That none wraps is a test of bounds,",
+        f"-- `satd_tiles::{module}::{name}` meets its contract: each local is an expression of the line's numbers. That none wraps is a test of bounds,",
         "-- that the results are the coefficients one of normal forms. Written by tools/passes.py. Assumes nothing.",
         "use mathlib.Core.Path.{ap, _∙_}",
         "use mathlib.Core.List.{List, [], _∷_, map}",
@@ -45,8 +73,8 @@ def butterflies(side, name):
         "use mir.Syntax.{w32}",
         "use Rattle.integers.proofs.Expr.{Ex, var, add, sub, stored, raw, machines}",
         "use Rattle.evc.specs.Tiles.{sign}",
-        "use Rattle.hadamard.specs.Passes.{place, RowWithin, put, " + ("four}" if half else "puts}"),
-        "use Rattle.hadamard.proofs.Lines.{known, fits, line-is}",
+        "use Rattle.satd_tiles.specs.Passes.{place, RowWithin, put, " + ("four}" if half else "puts}"),
+        "use Rattle.satd_tiles.proofs.Lines.{known, fits, line-is}",
         f"use {here}.Statement.{{statement}}",
         f"use {here}.Tie as tie",
         "",
@@ -69,36 +97,40 @@ def butterflies(side, name):
     ]
     needs = []
 
-    def need(name, answer, κs=""):
-        out.extend([f"{name} : tie.Need-{name}", f"{name} c{κs} = {answer}", ""])
+    def need(name, answer, κs="", lets=()):
+        out.extend([f"{name} : tie.Need-{name}", *equation(f"{name} c{κs}", lets, answer), ""])
         needs.append(name)
 
     for local, word, _ in steps:
         need(f"{word}-{local}", f"fits (input c) (small c) {local} tt")
-    # back to the start: one step to lend the block, one for each call
-    back = ".before"
+    # back to the start: one step to lend the block, two for each call
     seen = {}
     for k, (word, term) in enumerate(map(operation, PUTS.split())):
+        places = Places()
+        s = places(2 * k + 1)
         if half and k:
-            need(count(seen, "add-put"), f"omega (arith, c {back} .pre .0)")
-        need(count(seen, f"{word}-put"), f"fits (input (c {back})) (small (c {back})) ({term}) tt")
-        row = f"omega (arith, c {back} .pre .0)" if half else "lit< tt"
-        need(count(seen, "put-requires"), f"({row}, c {back} .pre " + (".1)" if half else ".0)"), κs=" κs")
-        back += " .before .before"
+            need(count(seen, "add-put"), f"omega (arith, {s} .pre .0)", lets=places)
+        need(count(seen, f"{word}-put"), f"fits (input ({s})) (small ({s})) ({term}) tt", lets=places)
+        row = f"omega (arith, {s} .pre .0)" if half else "lit< tt"
+        need(count(seen, "put-requires"), f"({row}, {s} .pre " + (".1)" if half else ".0)"), κs=" κs", lets=places)
     # what each call put, on what those before it had put
     row = lambda k: (f"(s .args .b + {k})" if k else "(s .args .b)") if half else str(k)
-    chain = "c" + " .before" * 6 + " .put .ensures"
-    for k in (1, 2, 3):
-        call = "c" + " .before" * (6 - 2 * k) + f" .put{k + 1} .ensures"
-        chain = f"{call} ∙ ap (λ (m : List (List ℤ)). put {row(k)} (s .args .j) (place (made s) {k}) m) ({chain})"
+    places = Places()
+    start = places(8)
+    chain = []
+    for k in (3, 2, 1):
+        call = f"{places(6 - 2 * k)} .put{k + 1} .ensures"
+        chain += [f"{'(' if chain else ''}{call}", f"∙ ap (λ (m : List (List ℤ)). put {row(k)} (s .args .j) (place (made s) {k}) m)"]
+    chain.append(f"({places(6)} .put .ensures)))")
     whole = "four (place l) (s .args .b) (s .args .j) (s .args .out .now)" if half else "puts (place l) (s .args .j) (s .args .out .now) 4"
     out += [
         "returns : tie.Need-returns",
         "unfolding sign ones onesIn pow one",
-        "returns c =",
-        "    let s = c" + " .before" * 8 + " in",
-        f"    {chain}",
-        f"    ∙ ap (λ (l : List ℤ). {whole}) (line-is (input s) (small s) results tt tt)",
+        *equation(
+            "returns c",
+            [*places, f"let s = {start} in"],
+            [*chain, f"∙ ap (λ (l : List ℤ). {whole}) (line-is (input s) (small s) results tt tt)"],
+        ),
         "",
         f"pub {name}-spec : {{M : Type 1}} → statement M",
         f"{name}-spec =",
@@ -112,10 +144,10 @@ def butterflies(side, name):
 # a pass, which reads its block by the function `read`: its numbers are at most `most` in size, as `within` shows of any row
 def pass_(side, name, read, most, within):
     module = f"had_{side}x{side}"
-    here = f"Rattle.hadamard.proofs.{module}.{name}"
+    here = f"Rattle.satd_tiles.proofs.{module}.{name}"
     rows = name == "row_pass"
     out = [
-        f"-- `hadamard::{module}::{name}` meets its contract. The invariant: the columns passed are filled with the rows' coefficients. Written by",
+        f"-- `satd_tiles::{module}::{name}` meets its contract. The invariant: the columns passed are filled with the rows' coefficients. Written by",
         "-- tools/passes.py. Assumes nothing.",
         "use mathlib.Core.Path.{_≡_, refl, sym, subst}",
         "use mathlib.Core.List.{List, [], _∷_}",
@@ -127,11 +159,11 @@ def pass_(side, name, read, most, within):
         "use mir.Syntax.{" + ("w16, w32}" if rows else "w32}"),
         "use mir.Val.{toZ, ofZ}",
         "use Rattle.integers.specs.Lists.{tab}",
-        "use Rattle.hadamard.specs.Passes.{place, entry, BlockWithin, line, wholeLine, passed}",
-        *(["use Rattle.hadamard.proofs.Blocks.{entry-within}"] if rows else []),
-        "use Rattle.hadamard.proofs.Lines.{took, took-within, took-line}",
-        "use Rattle.hadamard.proofs.Columns.{Columns, columns-start, columns-turn, columns-end}",
-        "use Rattle.hadamard.proofs.Tiles.{passed-within}",
+        "use Rattle.satd_tiles.specs.Passes.{place, entry, BlockWithin, line, wholeLine, passed}",
+        *(["use Rattle.satd_tiles.proofs.Blocks.{entry-within}"] if rows else []),
+        "use Rattle.satd_tiles.proofs.Lines.{took, took-within, took-line}",
+        "use Rattle.satd_tiles.proofs.Columns.{Columns, columns-start, columns-turn, columns-end}",
+        "use Rattle.satd_tiles.proofs.Tiles.{passed-within}",
         f"use {here}.Statement.{{statement}}",
         f"use {here}.Tie as tie",
         "",
@@ -147,48 +179,72 @@ def pass_(side, name, read, most, within):
     ]
     needs = []
 
-    def need(name, *answer, κs=""):
-        out.extend([f"{name} : tie.Need-{name} Inv-loop μ-loop", *answer[:-1], f"{name} c{κs} = {answer[-1]}", ""])
+    def need(name, answer, κs="", lets=()):
+        out.extend([f"{name} : tie.Need-{name} Inv-loop μ-loop", *equation(f"{name} c{κs}", lets, answer), ""])
         needs.append(name)
 
-    back = lambda k: "c" + " .before" * k
     need("loop-holds", "columns-start (pos 0)")
     for k in range(side):
-        need(f"{read}-requires" + (f"-{k + 1}" if k else ""), f"({back(k + 1)} .loop-test .taken, lit< tt)", κs=" κs")
+        places = Places()
+        taken = f"{places(k + 1)} .loop-test .taken"
+        need(f"{read}-requires" + (f"-{k + 1}" if k else ""), f"({taken}, lit< tt)", κs=" κs", lets=places)
     # the row as it was read, and that it is the block's
-    call = lambda k: f"{back(side - 1 - k)} .{read}" + (str(k + 1) if k else "")
-    chain = "refl"
-    for k in reversed(range(side)):
-        chain = f"took ({call(k)} .result) ({call(k)} .ok) ({call(k)} .ensures) ({chain})" if k < side - 1 else f"took ({call(k)} .result) ({call(k)} .ok) ({call(k)} .ensures) refl"
     last = f"tie.After-{read}{side} Inv-loop μ-loop"
-    row = lambda k: f"(entry ({back(side + k + 4)} .args .t1) ({back(side + k + 2)} .loop .j))"
+    places = Places()
+    calls = [f"{places(side - 1 - k)} .{read}" + (str(k + 1) if k else "") for k in range(side)]
+    terms = [f"toZ w32 (ofZ w32 ({call} .result))" for call in calls]
     out += [
         "-- the row as it was read",
         f"abbrev given : {last} → List ℤ",
-        "given c = " + " ∷ ".join(f"toZ w32 (ofZ w32 ({call(k)} .result))" for k in range(side)) + " ∷ []",
-        "",
-        f"are : (c : {last}) → given c ≡ tab {side} {row(0)}",
-        "unfolding tab",
-        f"are c = {chain}",
+        *equation("given c", places, [" ∷ ".join(terms[:2]), *("∷ " + " ∷ ".join(terms[k : k + 2]) for k in range(2, side, 2)), "∷ []"]),
         "",
     ]
+    took = [f"{'(' if k else ''}took ({call} .result) ({call} .ok) ({call} .ensures)" for k, call in enumerate(calls)]
+    of_row = Places()
+    row = f"(entry ({of_row(side + 4)} .args .t1) ({of_row(side + 2)} .loop .j))"
+    out += [
+        "are :",
+        f"    (c : {last}) →",
+        *(f"    {line}" for line in of_row),
+        f"    given c ≡ tab {side} {row}",
+        "unfolding tab",
+        *equation("are c", places, [*took, "refl" + ")" * (side - 1)]),
+        "",
+    ]
+    places = Places()
+    start, loop, taken = places(side + 4), places(side + 2), places(side + 1)
+    bound = 524288 if side == 4 else 262144
     need(
         "line-requires",
-        f"({back(side + 1)} .loop-test .taken, took-within {side} {524288 if side == 4 else 262144} (given c) {row(0)} (are c) (λ i. le-trans (small ({back(side + 4)}) ({back(side + 2)} .loop .j) i) (lit≤ tt)))",
+        [
+            f"let s = {start} in",
+            f"let j = {loop} .loop .j in",
+            f"({taken} .loop-test .taken, took-within {side} {bound} (given c) (entry (s .args .t1) j) (are c) (λ i. le-trans (small s j i) (lit≤ tt)))",
+        ],
         κs=" κs",
+        lets=places,
     )
     need("add-j", "omega arith")
     need("loop-less", "omega arith")
+    places = Places()
+    start, loop, taken = places(side + 5), places(side + 3), places(side + 2)
     need(
         "loop-again",
-        f"rw (c .line .ensures) (columns-turn (place (wholeLine {side} (given (c .before)))) ({back(side + 3)} .loop .inv) ({back(side + 2)} .loop-test .taken) (took-line {side} (given (c .before)) {row(1)} (are (c .before))))",
+        [
+            f"let l = {loop} .loop in",
+            f"let row = given (c .before) in",
+            f"rw (c .line .ensures)",
+            f"(columns-turn (place (wholeLine {side} row)) (l .inv) ({taken} .loop-test .taken) (took-line {side} row (entry ({start} .args .t1) (l .j)) (are (c .before))))",
+        ],
+        lets=places,
     )
     out += [
         "returns : tie.Need-returns Inv-loop μ-loop",
         "unfolding passed",
         "returns c =",
+        "    let s = c .before .before .before in",
         "    let e = columns-end (c .before .loop .inv) (omega arith) in",
-        f"    record {{ is = e; within = subst (BlockWithin {side * most}) (sym e) (passed-within {side} {most} (c .before .before .before .args .t1) (small (c .before .before .before))) }}",
+        f"    record {{ is = e; within = subst (BlockWithin {side * most}) (sym e) (passed-within {side} {most} (s .args .t1) (small s)) }}",
         "",
     ]
     needs.append("returns")
@@ -199,11 +255,24 @@ def pass_(side, name, read, most, within):
     return "\n".join(out) + "\n"
 
 
+# of tiles of 8 by 8, turned to a smaller side: its bounds are those of the row pass's and the column pass's sums
+def turned(name, side):
+    text = (CRATE / "proofs" / "had_8x8" / name / "Proof.antt").read_text()
+    numbers = {8: side, 2097152: 32768 * side * side, 16777216: 32768 * side * side * side}
+    text = re.sub(r"\b\d+\b", lambda m: str(numbers.get(int(m[0]), m[0])), text.replace("8x8", f"{side}x{side}"))
+    first, rest = text.split("\n", 1)
+    return f"{first}\n-- Written by tools/passes.py, from that of 8 by 8.\n{rest}"
+
+
 def main():
     texts = {"had_4x4/line": butterflies(4, "line"), "had_8x8/half": butterflies(8, "half")}
     for side in (4, 8):
         texts[f"had_{side}x{side}/row_pass"] = pass_(side, "row_pass", "wide", 32768, f"entry-within w16 {side} {side} (s .args .t1) _ (s .good .0) j i")
         texts[f"had_{side}x{side}/column_pass"] = pass_(side, "column_pass", "at", 32768 * side, "s .pre j i")
+    texts["had_4x4/evc_had_4x4"] = turned("evc_had_8x8", 4)
+    for name in ("wide", "row_sum", "sum"):
+        texts[f"had_4x4/{name}"] = turned(name, 4)
+    texts["had_2x2/wide"] = turned("wide", 2)
     for name, text in texts.items():
         path = CRATE / "proofs" / name / "Proof.antt"
         if "--check" in sys.argv[1:]:

@@ -16,7 +16,7 @@ use Rattle.plane_tests.specs.Blocks.{TwoBlocks}
 use Rattle.plane_tests.proofs.Planes.{is-inside, rows-inside, plane-alike}
 use Rattle.plane_tests.proofs.Replies.{rest-alike}
 use Rattle.block_rows.proofs.Tested.{areas-found}
-use Rattle.satd.proofs.Tiling.{satd-alike, satd-size, satd-depth, satd-area, satd-rest}
+use Rattle.satd.proofs.satd.Ends.{satd-alike, satd-size, satd-depth, satd-area, satd-rest}
 use Rattle.satd.proofs.satd.evce_satd_16b.Statement.{statement}
 use Rattle.satd.proofs.satd.evce_satd_16b.Tie as tie
 

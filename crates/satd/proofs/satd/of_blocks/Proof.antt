@@ -13,7 +13,8 @@ use Rattle.plane_tests.specs.Blocks.{strided, rest}
 use Rattle.block_rows.specs.Small.{Tested, apartFrom}
 use Rattle.block_rows.proofs.Tested.{some-marked, none-marked, none-small}
 use Rattle.satd.specs.Sides.{Side}
-use Rattle.satd.proofs.Tiling.{side-is, satd-fits}
+use Rattle.satd.proofs.Tiling.{satd-fits}
+use Rattle.satd.proofs.satd.Ends.{side-is}
 use Rattle.satd.proofs.satd.of_blocks.Statement.{statement}
 use Rattle.satd.proofs.satd.of_blocks.Tie as tie
 

@@ -7,7 +7,8 @@ use Rattle.integers.specs.Sum.{ofN+}
 use Rattle.integers.proofs.Loop.{Summed, summed-start, summed-step, summed-end, summed-next}
 use Rattle.evc.specs.Tiles.{tileNumber, tile}
 use Rattle.block_rows.specs.Small.{Tested, apartFrom}
-use Rattle.satd.proofs.Tiling.{tested-columns, tile-most, tile-is, tile-ends, side-some, side-count, one-tile}
+use Rattle.satd.proofs.Tiling.{tile-most, tile-ends, side-count}
+use Rattle.satd.proofs.sums.Standing.{tested-columns, tile-is, side-some, one-tile}
 use Rattle.satd.proofs.sums.across.Statement.{statement}
 use Rattle.satd.proofs.sums.across.Tie as tie
 

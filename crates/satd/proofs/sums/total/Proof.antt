@@ -7,7 +7,8 @@ use Rattle.integers.specs.Sum.{ofN+, sumN}
 use Rattle.integers.proofs.Loop.{Summed, summed-start, summed-step, summed-end, summed-next}
 use Rattle.evc.specs.Tiles.{tileNumber, tile, satdTotal}
 use Rattle.block_rows.specs.Small.{Tested, apartFrom}
-use Rattle.satd.proofs.Tiling.{packed-rows, tiles-are, tiles-most, tile-ends, side-some, side-count}
+use Rattle.satd.proofs.Tiling.{tiles-most, tile-ends, side-count}
+use Rattle.satd.proofs.sums.Standing.{packed-rows, tiles-are, side-some}
 use Rattle.satd.proofs.sums.total.Statement.{statement}
 use Rattle.satd.proofs.sums.total.Tie as tie
 

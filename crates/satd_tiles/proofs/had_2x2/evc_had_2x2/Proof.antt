@@ -20,7 +20,9 @@ differences d = entry d 0 0 ∷ entry d 0 1 ∷ entry d 1 0 ∷ entry d 1 1 ∷ 
 
 -- as they are handed on
 abbrev handed : tie.After-wide4 → List ℤ
-handed c = toZ w32 (ofZ w32 (c .before .before .before .wide .result)) ∷ toZ w32 (ofZ w32 (c .before .before .wide2 .result)) ∷ toZ w32 (ofZ w32 (c .before .wide3 .result)) ∷ toZ w32 (ofZ w32 (c .wide4 .result)) ∷ []
+handed c =
+    toZ w32 (ofZ w32 (c .before .before .before .wide .result)) ∷ toZ w32 (ofZ w32 (c .before .before .wide2 .result))
+    ∷ toZ w32 (ofZ w32 (c .before .wide3 .result)) ∷ toZ w32 (ofZ w32 (c .wide4 .result)) ∷ []
 
 are : (c : tie.After-wide4) → handed c ≡ differences (c .before .before .before .before .before .args .t1)
 are c =

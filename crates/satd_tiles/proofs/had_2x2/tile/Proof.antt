@@ -48,7 +48,9 @@ unfolding coefficient sum
 is-coefficient c a b = refl
 
 -- a size as `abs_i32` gives it, by the coefficient, with its bound
-size : (c : tie.Start) (e : Ex) (a b s : ℕ) → s ≡ natAbs (raw (machines (ρ c)) (loc w32 e)) → T (ok (sizes (ρ c)) (loc w32 e)) → T (agree e (coefficientE a b)) → (s ≡ natAbs (coefficient 2 (difference c) a b)) × (s ≤ bound (sizes (ρ c)) e)
+size :
+    (c : tie.Start) (e : Ex) (a b s : ℕ) → s ≡ natAbs (raw (machines (ρ c)) (loc w32 e)) → T (ok (sizes (ρ c)) (loc w32 e)) → T (agree e (coefficientE a b)) →
+    (s ≡ natAbs (coefficient 2 (difference c) a b)) × (s ≤ bound (sizes (ρ c)) e)
 size c e a b s p t u =
     let q = p ∙ ap natAbs (reads (ρ c) (loc w32 e) t) in
     (q ∙ ap natAbs (ring (exacts (ρ c)) e (coefficientE a b) u ∙ is-coefficient c a b), rw q (within (ρ c) e .bound))

@@ -1,4 +1,5 @@
 -- `satd_tiles::had_4x4::evc_had_4x4` meets its contract: what the passes leave are the tile's coefficients (proofs/Tiles.antt). Assumes nothing.
+-- Written by tools/passes.py, from that of 8 by 8.
 use mathlib.Core.Path.{ap, _∙_}
 use native.Mathlib.Omega.{arith}
 use lib.Dec.{lit<}
@@ -26,13 +27,18 @@ abs-i32-requires : tie.Need-abs-i32-requires
 abs-i32-requires c κs = tt
 
 -- the tile, by what the calls gave
-tile : (c : tie.After-abs-i32) → ByPasses 4 (c .before .before .before .before .before .before .args .diff) (c .before .before .before .before .before .row-pass .result) (c .before .before .before .before .column-pass .result) (c .before .before .sum .result) (c .abs-i32 .result)
-tile c = record {
-  rows = c .before .before .before .before .before .row-pass .ensures .is;
-  columns = c .before .before .before .before .column-pass .ensures .is;
-  total = c .before .before .sum .ensures;
-  first = c .abs-i32 .ensures ∙ ap natAbs (back w32 (c .before .at .result) (c .before .at .ok) ∙ c .before .at .ensures);
-}
+tile :
+    (c : tie.After-abs-i32) →
+    let m = c .before .before .before .before in
+    ByPasses 4 (m .before .before .args .diff) (m .before .row-pass .result) (m .column-pass .result) (c .before .before .sum .result) (c .abs-i32 .result)
+tile c =
+    let m = c .before .before .before .before in
+    record {
+      rows = m .before .row-pass .ensures .is;
+      columns = m .column-pass .ensures .is;
+      total = c .before .before .sum .ensures;
+      first = c .abs-i32 .ensures ∙ ap natAbs (back w32 (c .before .at .result) (c .before .at .ok) ∙ c .before .at .ensures);
+    }
 
 sub-number-4 : tie.Need-sub-number-4
 sub-number-4 c = omega (arith, shares (tile c) .1)

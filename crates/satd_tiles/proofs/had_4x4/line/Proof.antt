@@ -62,22 +62,38 @@ put-requires-2 : tie.Need-put-requires-2
 put-requires-2 c κs = (lit< tt, c .before .before .before .pre .0)
 
 add-put-2 : tie.Need-add-put-2
-add-put-2 c = fits (input (c .before .before .before .before .before)) (small (c .before .before .before .before .before)) (add a2 a3) tt
+add-put-2 c =
+    let c4 = c .before .before .before .before in
+    fits (input (c4 .before)) (small (c4 .before)) (add a2 a3) tt
 
 put-requires-3 : tie.Need-put-requires-3
-put-requires-3 c κs = (lit< tt, c .before .before .before .before .before .pre .0)
+put-requires-3 c κs =
+    let c4 = c .before .before .before .before in
+    (lit< tt, c4 .before .pre .0)
 
 sub-put-2 : tie.Need-sub-put-2
-sub-put-2 c = fits (input (c .before .before .before .before .before .before .before)) (small (c .before .before .before .before .before .before .before)) (sub a2 a3) tt
+sub-put-2 c =
+    let c4 = c .before .before .before .before in
+    fits (input (c4 .before .before .before)) (small (c4 .before .before .before)) (sub a2 a3) tt
 
 put-requires-4 : tie.Need-put-requires-4
-put-requires-4 c κs = (lit< tt, c .before .before .before .before .before .before .before .pre .0)
+put-requires-4 c κs =
+    let c4 = c .before .before .before .before in
+    (lit< tt, c4 .before .before .before .pre .0)
 
 returns : tie.Need-returns
 unfolding sign ones onesIn pow one
 returns c =
-    let s = c .before .before .before .before .before .before .before .before in
-    c .put4 .ensures ∙ ap (λ (m : List (List ℤ)). put 3 (s .args .j) (place (made s) 3) m) (c .before .before .put3 .ensures ∙ ap (λ (m : List (List ℤ)). put 2 (s .args .j) (place (made s) 2) m) (c .before .before .before .before .put2 .ensures ∙ ap (λ (m : List (List ℤ)). put 1 (s .args .j) (place (made s) 1) m) (c .before .before .before .before .before .before .put .ensures)))
+    let c4 = c .before .before .before .before in
+    let c8 = c4 .before .before .before .before in
+    let s = c8 in
+    c .put4 .ensures
+    ∙ ap (λ (m : List (List ℤ)). put 3 (s .args .j) (place (made s) 3) m)
+    (c .before .before .put3 .ensures
+    ∙ ap (λ (m : List (List ℤ)). put 2 (s .args .j) (place (made s) 2) m)
+    (c4 .put2 .ensures
+    ∙ ap (λ (m : List (List ℤ)). put 1 (s .args .j) (place (made s) 1) m)
+    (c4 .before .before .put .ensures)))
     ∙ ap (λ (l : List ℤ). puts (place l) (s .args .j) (s .args .out .now) 4) (line-is (input s) (small s) results tt tt)
 
 pub line-spec : {M : Type 1} → statement M

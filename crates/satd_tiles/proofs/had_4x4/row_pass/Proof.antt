@@ -40,18 +40,37 @@ wide-requires-3 : tie.Need-wide-requires-3 Inv-loop μ-loop
 wide-requires-3 c κs = (c .before .before .before .loop-test .taken, lit< tt)
 
 wide-requires-4 : tie.Need-wide-requires-4 Inv-loop μ-loop
-wide-requires-4 c κs = (c .before .before .before .before .loop-test .taken, lit< tt)
+wide-requires-4 c κs =
+    let c4 = c .before .before .before .before in
+    (c4 .loop-test .taken, lit< tt)
 
 -- the row as it was read
 abbrev given : tie.After-wide4 Inv-loop μ-loop → List ℤ
-given c = toZ w32 (ofZ w32 (c .before .before .before .wide .result)) ∷ toZ w32 (ofZ w32 (c .before .before .wide2 .result)) ∷ toZ w32 (ofZ w32 (c .before .wide3 .result)) ∷ toZ w32 (ofZ w32 (c .wide4 .result)) ∷ []
+given c =
+    toZ w32 (ofZ w32 (c .before .before .before .wide .result)) ∷ toZ w32 (ofZ w32 (c .before .before .wide2 .result))
+    ∷ toZ w32 (ofZ w32 (c .before .wide3 .result)) ∷ toZ w32 (ofZ w32 (c .wide4 .result))
+    ∷ []
 
-are : (c : tie.After-wide4 Inv-loop μ-loop) → given c ≡ tab 4 (entry (c .before .before .before .before .before .before .before .before .args .t1) (c .before .before .before .before .before .before .loop .j))
+are :
+    (c : tie.After-wide4 Inv-loop μ-loop) →
+    let c4 = c .before .before .before .before in
+    let c8 = c4 .before .before .before .before in
+    given c ≡ tab 4 (entry (c8 .args .t1) (c4 .before .before .loop .j))
 unfolding tab
-are c = took (c .before .before .before .wide .result) (c .before .before .before .wide .ok) (c .before .before .before .wide .ensures) (took (c .before .before .wide2 .result) (c .before .before .wide2 .ok) (c .before .before .wide2 .ensures) (took (c .before .wide3 .result) (c .before .wide3 .ok) (c .before .wide3 .ensures) (took (c .wide4 .result) (c .wide4 .ok) (c .wide4 .ensures) refl)))
+are c =
+    took (c .before .before .before .wide .result) (c .before .before .before .wide .ok) (c .before .before .before .wide .ensures)
+    (took (c .before .before .wide2 .result) (c .before .before .wide2 .ok) (c .before .before .wide2 .ensures)
+    (took (c .before .wide3 .result) (c .before .wide3 .ok) (c .before .wide3 .ensures)
+    (took (c .wide4 .result) (c .wide4 .ok) (c .wide4 .ensures)
+    refl)))
 
 line-requires : tie.Need-line-requires Inv-loop μ-loop
-line-requires c κs = (c .before .before .before .before .before .loop-test .taken, took-within 4 524288 (given c) (entry (c .before .before .before .before .before .before .before .before .args .t1) (c .before .before .before .before .before .before .loop .j)) (are c) (λ i. le-trans (small (c .before .before .before .before .before .before .before .before) (c .before .before .before .before .before .before .loop .j) i) (lit≤ tt)))
+line-requires c κs =
+    let c4 = c .before .before .before .before in
+    let c8 = c4 .before .before .before .before in
+    let s = c8 in
+    let j = c4 .before .before .loop .j in
+    (c4 .before .loop-test .taken, took-within 4 524288 (given c) (entry (s .args .t1) j) (are c) (λ i. le-trans (small s j i) (lit≤ tt)))
 
 add-j : tie.Need-add-j Inv-loop μ-loop
 add-j c = omega arith
@@ -60,13 +79,20 @@ loop-less : tie.Need-loop-less Inv-loop μ-loop
 loop-less c = omega arith
 
 loop-again : tie.Need-loop-again Inv-loop μ-loop
-loop-again c = rw (c .line .ensures) (columns-turn (place (wholeLine 4 (given (c .before)))) (c .before .before .before .before .before .before .before .loop .inv) (c .before .before .before .before .before .before .loop-test .taken) (took-line 4 (given (c .before)) (entry (c .before .before .before .before .before .before .before .before .before .args .t1) (c .before .before .before .before .before .before .before .loop .j)) (are (c .before))))
+loop-again c =
+    let c4 = c .before .before .before .before in
+    let c8 = c4 .before .before .before .before in
+    let l = c4 .before .before .before .loop in
+    let row = given (c .before) in
+    rw (c .line .ensures)
+    (columns-turn (place (wholeLine 4 row)) (l .inv) (c4 .before .before .loop-test .taken) (took-line 4 row (entry (c8 .before .args .t1) (l .j)) (are (c .before))))
 
 returns : tie.Need-returns Inv-loop μ-loop
 unfolding passed
 returns c =
+    let s = c .before .before .before in
     let e = columns-end (c .before .loop .inv) (omega arith) in
-    record { is = e; within = subst (BlockWithin 131072) (sym e) (passed-within 4 32768 (c .before .before .before .args .t1) (small (c .before .before .before))) }
+    record { is = e; within = subst (BlockWithin 131072) (sym e) (passed-within 4 32768 (s .args .t1) (small s)) }
 
 pub row-pass-spec : {M : Type 1} → statement M
 row-pass-spec =

@@ -1,4 +1,5 @@
 -- `satd_tiles::had_4x4::sum` meets its contract. The invariant: the sum is that of the rows passed. Assumes nothing.
+-- Written by tools/passes.py, from that of 8 by 8.
 use mathlib.Core.List.{[]}
 use Prim.Native.Nat.{_-_}
 use native.Mathlib.Omega.{arith}

@@ -1,4 +1,5 @@
 -- `satd_tiles::had_4x4::wide` meets its contract. Assumes nothing.
+-- Written by tools/passes.py, from that of 8 by 8.
 use borrow.Author.Needs.{needs}
 use mathlib.Core.List.{[], _∷_}
 use Prim.Native.Nat.{ℕ}

@@ -39,30 +39,68 @@ at-requires-3 : tie.Need-at-requires-3 Inv-loop μ-loop
 at-requires-3 c κs = (c .before .before .before .loop-test .taken, lit< tt)
 
 at-requires-4 : tie.Need-at-requires-4 Inv-loop μ-loop
-at-requires-4 c κs = (c .before .before .before .before .loop-test .taken, lit< tt)
+at-requires-4 c κs =
+    let c4 = c .before .before .before .before in
+    (c4 .loop-test .taken, lit< tt)
 
 at-requires-5 : tie.Need-at-requires-5 Inv-loop μ-loop
-at-requires-5 c κs = (c .before .before .before .before .before .loop-test .taken, lit< tt)
+at-requires-5 c κs =
+    let c4 = c .before .before .before .before in
+    (c4 .before .loop-test .taken, lit< tt)
 
 at-requires-6 : tie.Need-at-requires-6 Inv-loop μ-loop
-at-requires-6 c κs = (c .before .before .before .before .before .before .loop-test .taken, lit< tt)
+at-requires-6 c κs =
+    let c4 = c .before .before .before .before in
+    (c4 .before .before .loop-test .taken, lit< tt)
 
 at-requires-7 : tie.Need-at-requires-7 Inv-loop μ-loop
-at-requires-7 c κs = (c .before .before .before .before .before .before .before .loop-test .taken, lit< tt)
+at-requires-7 c κs =
+    let c4 = c .before .before .before .before in
+    (c4 .before .before .before .loop-test .taken, lit< tt)
 
 at-requires-8 : tie.Need-at-requires-8 Inv-loop μ-loop
-at-requires-8 c κs = (c .before .before .before .before .before .before .before .before .loop-test .taken, lit< tt)
+at-requires-8 c κs =
+    let c4 = c .before .before .before .before in
+    let c8 = c4 .before .before .before .before in
+    (c8 .loop-test .taken, lit< tt)
 
 -- the row as it was read
 abbrev given : tie.After-at8 Inv-loop μ-loop → List ℤ
-given c = toZ w32 (ofZ w32 (c .before .before .before .before .before .before .before .at .result)) ∷ toZ w32 (ofZ w32 (c .before .before .before .before .before .before .at2 .result)) ∷ toZ w32 (ofZ w32 (c .before .before .before .before .before .at3 .result)) ∷ toZ w32 (ofZ w32 (c .before .before .before .before .at4 .result)) ∷ toZ w32 (ofZ w32 (c .before .before .before .at5 .result)) ∷ toZ w32 (ofZ w32 (c .before .before .at6 .result)) ∷ toZ w32 (ofZ w32 (c .before .at7 .result)) ∷ toZ w32 (ofZ w32 (c .at8 .result)) ∷ []
+given c =
+    let c4 = c .before .before .before .before in
+    toZ w32 (ofZ w32 (c4 .before .before .before .at .result)) ∷ toZ w32 (ofZ w32 (c4 .before .before .at2 .result))
+    ∷ toZ w32 (ofZ w32 (c4 .before .at3 .result)) ∷ toZ w32 (ofZ w32 (c4 .at4 .result))
+    ∷ toZ w32 (ofZ w32 (c .before .before .before .at5 .result)) ∷ toZ w32 (ofZ w32 (c .before .before .at6 .result))
+    ∷ toZ w32 (ofZ w32 (c .before .at7 .result)) ∷ toZ w32 (ofZ w32 (c .at8 .result))
+    ∷ []
 
-are : (c : tie.After-at8 Inv-loop μ-loop) → given c ≡ tab 8 (entry (c .before .before .before .before .before .before .before .before .before .before .before .before .args .t1) (c .before .before .before .before .before .before .before .before .before .before .loop .j))
+are :
+    (c : tie.After-at8 Inv-loop μ-loop) →
+    let c4 = c .before .before .before .before in
+    let c8 = c4 .before .before .before .before in
+    let c12 = c8 .before .before .before .before in
+    given c ≡ tab 8 (entry (c12 .args .t1) (c8 .before .before .loop .j))
 unfolding tab
-are c = took (c .before .before .before .before .before .before .before .at .result) (c .before .before .before .before .before .before .before .at .ok) (c .before .before .before .before .before .before .before .at .ensures) (took (c .before .before .before .before .before .before .at2 .result) (c .before .before .before .before .before .before .at2 .ok) (c .before .before .before .before .before .before .at2 .ensures) (took (c .before .before .before .before .before .at3 .result) (c .before .before .before .before .before .at3 .ok) (c .before .before .before .before .before .at3 .ensures) (took (c .before .before .before .before .at4 .result) (c .before .before .before .before .at4 .ok) (c .before .before .before .before .at4 .ensures) (took (c .before .before .before .at5 .result) (c .before .before .before .at5 .ok) (c .before .before .before .at5 .ensures) (took (c .before .before .at6 .result) (c .before .before .at6 .ok) (c .before .before .at6 .ensures) (took (c .before .at7 .result) (c .before .at7 .ok) (c .before .at7 .ensures) (took (c .at8 .result) (c .at8 .ok) (c .at8 .ensures) refl)))))))
+are c =
+    let c4 = c .before .before .before .before in
+    took (c4 .before .before .before .at .result) (c4 .before .before .before .at .ok) (c4 .before .before .before .at .ensures)
+    (took (c4 .before .before .at2 .result) (c4 .before .before .at2 .ok) (c4 .before .before .at2 .ensures)
+    (took (c4 .before .at3 .result) (c4 .before .at3 .ok) (c4 .before .at3 .ensures)
+    (took (c4 .at4 .result) (c4 .at4 .ok) (c4 .at4 .ensures)
+    (took (c .before .before .before .at5 .result) (c .before .before .before .at5 .ok) (c .before .before .before .at5 .ensures)
+    (took (c .before .before .at6 .result) (c .before .before .at6 .ok) (c .before .before .at6 .ensures)
+    (took (c .before .at7 .result) (c .before .at7 .ok) (c .before .at7 .ensures)
+    (took (c .at8 .result) (c .at8 .ok) (c .at8 .ensures)
+    refl)))))))
 
 line-requires : tie.Need-line-requires Inv-loop μ-loop
-line-requires c κs = (c .before .before .before .before .before .before .before .before .before .loop-test .taken, took-within 8 262144 (given c) (entry (c .before .before .before .before .before .before .before .before .before .before .before .before .args .t1) (c .before .before .before .before .before .before .before .before .before .before .loop .j)) (are c) (λ i. le-trans (small (c .before .before .before .before .before .before .before .before .before .before .before .before) (c .before .before .before .before .before .before .before .before .before .before .loop .j) i) (lit≤ tt)))
+line-requires c κs =
+    let c4 = c .before .before .before .before in
+    let c8 = c4 .before .before .before .before in
+    let c12 = c8 .before .before .before .before in
+    let s = c12 in
+    let j = c8 .before .before .loop .j in
+    (c8 .before .loop-test .taken, took-within 8 262144 (given c) (entry (s .args .t1) j) (are c) (λ i. le-trans (small s j i) (lit≤ tt)))
 
 add-j : tie.Need-add-j Inv-loop μ-loop
 add-j c = omega arith
@@ -71,13 +109,21 @@ loop-less : tie.Need-loop-less Inv-loop μ-loop
 loop-less c = omega arith
 
 loop-again : tie.Need-loop-again Inv-loop μ-loop
-loop-again c = rw (c .line .ensures) (columns-turn (place (wholeLine 8 (given (c .before)))) (c .before .before .before .before .before .before .before .before .before .before .before .loop .inv) (c .before .before .before .before .before .before .before .before .before .before .loop-test .taken) (took-line 8 (given (c .before)) (entry (c .before .before .before .before .before .before .before .before .before .before .before .before .before .args .t1) (c .before .before .before .before .before .before .before .before .before .before .before .loop .j)) (are (c .before))))
+loop-again c =
+    let c4 = c .before .before .before .before in
+    let c8 = c4 .before .before .before .before in
+    let c12 = c8 .before .before .before .before in
+    let l = c8 .before .before .before .loop in
+    let row = given (c .before) in
+    rw (c .line .ensures)
+    (columns-turn (place (wholeLine 8 row)) (l .inv) (c8 .before .before .loop-test .taken) (took-line 8 row (entry (c12 .before .args .t1) (l .j)) (are (c .before))))
 
 returns : tie.Need-returns Inv-loop μ-loop
 unfolding passed
 returns c =
+    let s = c .before .before .before in
     let e = columns-end (c .before .loop .inv) (omega arith) in
-    record { is = e; within = subst (BlockWithin 2097152) (sym e) (passed-within 8 262144 (c .before .before .before .args .t1) (small (c .before .before .before))) }
+    record { is = e; within = subst (BlockWithin 2097152) (sym e) (passed-within 8 262144 (s .args .t1) (small s)) }
 
 pub column-pass-spec : {M : Type 1} → statement M
 column-pass-spec =

@@ -26,13 +26,18 @@ abs-i32-requires : tie.Need-abs-i32-requires
 abs-i32-requires c κs = tt
 
 -- the tile, by what the calls gave
-tile : (c : tie.After-abs-i32) → ByPasses 8 (c .before .before .before .before .before .before .args .diff) (c .before .before .before .before .before .row-pass .result) (c .before .before .before .before .column-pass .result) (c .before .before .sum .result) (c .abs-i32 .result)
-tile c = record {
-  rows = c .before .before .before .before .before .row-pass .ensures .is;
-  columns = c .before .before .before .before .column-pass .ensures .is;
-  total = c .before .before .sum .ensures;
-  first = c .abs-i32 .ensures ∙ ap natAbs (back w32 (c .before .at .result) (c .before .at .ok) ∙ c .before .at .ensures);
-}
+tile :
+    (c : tie.After-abs-i32) →
+    let m = c .before .before .before .before in
+    ByPasses 8 (m .before .before .args .diff) (m .before .row-pass .result) (m .column-pass .result) (c .before .before .sum .result) (c .abs-i32 .result)
+tile c =
+    let m = c .before .before .before .before in
+    record {
+      rows = m .before .row-pass .ensures .is;
+      columns = m .column-pass .ensures .is;
+      total = c .before .before .sum .ensures;
+      first = c .abs-i32 .ensures ∙ ap natAbs (back w32 (c .before .at .result) (c .before .at .ok) ∙ c .before .at .ensures);
+    }
 
 sub-number-8 : tie.Need-sub-number-8
 sub-number-8 c = omega (arith, shares (tile c) .1)

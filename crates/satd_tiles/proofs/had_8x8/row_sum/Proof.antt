@@ -27,7 +27,10 @@ abs-i32-requires : tie.Need-abs-i32-requires Inv-loop μ-loop
 abs-i32-requires c κs = tt
 
 -- what `abs_i32` gave is the next size
-next : (c : tie.After-abs-i32 Inv-loop μ-loop) → c .abs-i32 .result ≡ natAbs (entry (c .before .before .before .before .args .m .now) (c .before .before .before .before .args .j) (c .before .before .before .loop .i))
+next :
+    (c : tie.After-abs-i32 Inv-loop μ-loop) →
+    let l = c .before .before .before in
+    c .abs-i32 .result ≡ natAbs (entry (l .before .args .m .now) (l .before .args .j) (l .loop .i))
 next c = c .abs-i32 .ensures ∙ ap natAbs (back w32 (c .before .at .result) (c .before .at .ok) ∙ c .before .at .ensures)
 
 add-s : tie.Need-add-s Inv-loop μ-loop

@@ -1,0 +1,2 @@
+-- Laws that several proofs of src/satd.rt need.
+pub mod Ends

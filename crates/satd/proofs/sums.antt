@@ -1,0 +1,2 @@
+-- Laws that several proofs of src/sums.rt need.
+pub mod Standing
