@@ -1,6 +1,6 @@
 -- Blocks at positions that may be negative: that an accepted call reads inside the plane; and how such a block is read where it stands, or row
 -- by row. Assumes nothing.
-use mathlib.Core.Path.{_≡_, refl, sym, ap, ap₂, _∙_, subst₂}
+use mathlib.Core.Path.{_≡_, refl, sym, ap, ap₂, _∙_}
 use mathlib.Core.Bool.{Bool, false, _||_}
 use mathlib.Core.List.{List}
 use Prim.Native.Nat.{ℕ, _+_, _*_, _-_, _≤_, _<_}
@@ -64,13 +64,7 @@ pub edges-alike : (l : List ℕ) (width height stride : ℕ) (x y : ℤ) (w h de
 unfolding edgeCell
 edges-alike l width height stride x y w h depth = record { reads = λ j i p q. refl; bad = λ v. refl }
 
--- ---- a signed argument that is passed on comes as its bits
-pub as-bits : (P : ℤ → ℤ → Type 0) {x y : ℤ} → SFits w16 x → SFits w16 y → P x y → P (toZ w16 (ofZ w16 x)) (toZ w16 (ofZ w16 y))
-as-bits P f g p = subst₂ P (sym (toZ-ofZ f)) (sym (toZ-ofZ g)) p
-
-pub of-bits : (P : ℤ → ℤ → Type 0) {x y : ℤ} → SFits w16 x → SFits w16 y → P (toZ w16 (ofZ w16 x)) (toZ w16 (ofZ w16 y)) → P x y
-of-bits P f g p = subst₂ P (toZ-ofZ f) (toZ-ofZ g) p
-
+-- a signed argument that is passed on comes as its bits
 edge-bits : {y : ℤ} {row : ℕ} (j : ℕ) → SFits w16 y → row ≡ edge (toZ w16 (ofZ w16 y) +ℤ pos j) → row ≡ edge (y +ℤ pos j)
 edge-bits {y} j f e = e ∙ ap (λ (z : ℤ). edge (z +ℤ pos j)) (toZ-ofZ f)
 
@@ -84,7 +78,7 @@ pub is-plain :
 is-plain {x} {y} {r} f g e n =
     let a = ltZ x (pos 0) in
     let b = ltZ y (pos 0) in
-    let k : a || b ≡ false = sym (of-bits (λ x y. r ≡ ltZ x (pos 0) || ltZ y (pos 0)) f g e) ∙ n in
+    let k : a || b ≡ false = rw (toZ-ofZ f, toZ-ofZ g) at (sym e ∙ n) in
     record { across = lt-failed x (pos 0) (neither-left a b k); down = lt-failed y (pos 0) (neither-right a b k) }
 
 sum-edge : (x : ℤ) (i : ℕ) → pos 0 ≤ℤ x → edge (x +ℤ pos i) ≡ edge (x +ℤ pos 0) + i

@@ -65,6 +65,20 @@ rows-inside n width height stride x y w h p i =
     let last : (y + (h - 1)) * stride ≤ (height - 1) * stride = mul-le-mul-right stride (omega arith) in
     omega (arith, i .across, i .formed .long)
 
+pub plane-holds : (n width height stride x y w h : ℕ) → 1 ≤ h → outsidePlane n width height stride x y w h ≡ false → reach (y * stride + x) w stride h ≤ n
+plane-holds n width height stride x y w h p e = rows-inside n width height stride x y w h p (is-inside n width height stride x y w h e)
+
+-- so does a packed block
+pub planes-hold :
+    (n width height stride x y m w h : ℕ) → (1 ≤ w) × (w ≤ 64) → (1 ≤ h) × (h ≤ 64) → outsidePlane n width height stride x y w h ≡ false →
+    outsidePlane m w h w 0 0 w h ≡ false → TwoBlocks w h n (y * stride + x) stride m 0 w
+planes-hold n width height stride x y m w h p q d e = record {
+  narrow = p .1;
+  low = q .1;
+  one = plane-holds n width height stride x y w h (q .0) d;
+  two = is-inside m w h w 0 0 w h e .formed .long;
+}
+
 pub plane-alike :
     (l : List ℕ) (width height stride x y w h depth start : ℕ) → start ≡ y * stride + x →
     Alike w h (strided l start stride depth) (inPlane (planeOf l width height stride) x y w h depth)

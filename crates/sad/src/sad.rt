@@ -24,7 +24,9 @@ pub fn evce_sad_16b(
     h: usize,
     depth: u8,
 ) -> Distortion
-    ensures { λ r. ⌜ distortionReading r ≡ sad16b (planeOf (now (org .entry)) width height stride) x y (planeOf (now (reference .entry)) «ref_width» «ref_height» «ref_stride») «mv_x» «mv_y» w h depth ⌝ }
+    ensures { λ r. ⌜ distortionReading r
+        ≡ sad16b (planeOf (now (org .entry)) width height stride) x y
+        (planeOf (now (reference .entry)) «ref_width» «ref_height» «ref_stride») «mv_x» «mv_y» w h depth ⌝ }
 {
     if plane_tests::bad_sides(w, h) {
         return Distortion::Refused(Refusal::Size);

@@ -3,11 +3,11 @@ use Prim.Native.Nat.{_+_, _*_, _<_}
 use native.Mathlib.Omega.{arith}
 use lib.Bits.{bitOr}
 use lib.ListN.{length}
+use mir.Facts.{toZ-ofZ}
 use Rattle.plane_tests.specs.Blocks.{cell}
-use Rattle.block_rows.specs.Totals.{BlocksTotalled, apart}
-use Rattle.block_rows.specs.Edges.{edgeCell}
+use Rattle.block_rows.specs.Totals.{apart}
 use Rattle.block_rows.proofs.Cells.{same-block, blocks-alike}
-use Rattle.block_rows.proofs.AtEdges.{of-bits, Plain, is-plain, stands, stands-in, plain-same, plain-inside}
+use Rattle.block_rows.proofs.AtEdges.{Plain, is-plain, stands, stands-in, plain-same, plain-inside}
 use borrow.Author.Needs.{needs}
 use Rattle.sad.proofs.edges.total.Statement.{statement}
 use Rattle.sad.proofs.edges.total.Tie as tie
@@ -30,14 +30,7 @@ edge-rows-requires : tie.Need-edge-rows-requires
 edge-rows-requires c κs = search needs
 
 returns : tie.Need-returns
-returns c =
-    let s = c .before .before .before .before .before in
-    let a = s .args in
-    of-bits
-    (λ x y.
-    BlocksTotalled (64 * (64 * 65535)) apart bitOr (a .w) (a .h) (cell 0 (a .org .now) (a .at) (a .stride)) (edgeCell (a .reference .now) (a .ref-stride) x y)
-    (c .edge-rows .result .sum) (c .edge-rows .result .any))
-    (s .fits .mv-x) (s .fits .mv-y) (c .edge-rows .ensures)
+returns c = let f = c .before .before .before .before .before .fits in rw (toZ-ofZ (f .mv-x), toZ-ofZ (f .mv-y)) at (c .edge-rows .ensures)
 
 row-start-requires : tie.Need-row-start-requires
 row-start-requires c κs = search needs

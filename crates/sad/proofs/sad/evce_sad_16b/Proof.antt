@@ -1,22 +1,18 @@
 -- `sad::sad::evce_sad_16b` meets its contract: each refusal is the first broken test, and what is left is read alike. Assumes nothing.
-use mathlib.Core.Path.{_≡_, refl, sym, ap, _∙_}
+use mathlib.Core.Path.{_≡_, refl, sym, _∙_}
 use mathlib.Core.Bool.{false, _||_}
-use Prim.Native.Nat.{ℕ, _+_, _*_, _-_, _/_, _^_}
+use Prim.Native.Nat.{_+_, _*_}
 use native.Mathlib.Omega.{arith}
 use borrow.Author.Needs.{needs}
-use lib.Bits.{bitOr}
 use lib.ListN.{length}
-use Rattle.integers.proofs.Bools.{neither-left, neither-right}
+use mir.Facts.{toZ-ofZ}
 use Rattle.evc.specs.Tests.{outside}
 use Rattle.evc.proofs.Tests.{outside-no}
 use Rattle.plane_tests.specs.Areas.{outsidePlane, outsideEdges}
-use Rattle.plane_tests.specs.Blocks.{cell}
-use Rattle.plane_tests.proofs.Planes.{is-inside, rows-inside, plane-alike}
-use Rattle.plane_tests.proofs.Replies.{rest-alike}
-use Rattle.block_rows.specs.Edges.{edgeCell, AtEdges}
-use Rattle.sad_answer.proofs.Sads.{sad-alike, sad-size, sad-depth, sad-area, sad-second, sad-rest}
-use Rattle.block_rows.proofs.AtEdges.{edges-in, edges-alike, as-bits, of-bits}
-use Rattle.block_rows.specs.Totals.{BlocksTotalled, apart}
+use Rattle.plane_tests.proofs.Planes.{plane-holds, plane-alike}
+use Rattle.block_rows.specs.Edges.{AtEdges}
+use Rattle.block_rows.proofs.AtEdges.{edges-in, edges-alike}
+use Rattle.sad_answer.proofs.Sads.{sad-size, sad-depth, sad-area, sad-second, sad-sides, sad-ends}
 use Rattle.sad.proofs.Ends.{sad-totalled}
 use Rattle.sad.proofs.sad.evce_sad_16b.Statement.{statement}
 use Rattle.sad.proofs.sad.evce_sad_16b.Tie as tie
@@ -28,25 +24,20 @@ sized c = sym (c .before .bad-sides .ensures) ∙ c .if1 .left
 deep : (c : tie.Else2) → outside 8 14 (c .before .before .before .before .before .before .args .depth) ≡ false
 deep c = sym (c .before .bad-depth .ensures) ∙ c .if2 .left
 
-one : (c : tie.Else3) → let a = c .before .before .before .before .before .before .before .before .args in outsidePlane (length (a .org .now)) (a .width) (a .height) (a .stride) (a .x) (a .y) (a .w) (a .h) ≡ false
+one :
+    (c : tie.Else3) →
+    let a = c .before .before .before .before .before .before .before .before .args in
+    outsidePlane (length (a .org .now)) (a .width) (a .height) (a .stride) (a .x) (a .y) (a .w) (a .h) ≡ false
 one c = sym (c .before .outside-plane .ensures) ∙ c .if3 .left
 
 -- the positions come as their bits
-farBits :
-    (c : tie.After-outside-edges) →
-    let a = c .before .before .before .before .before .before .before .before .before .args in
-    c .outside-edges .result ≡ outsideEdges (length (a .reference .now)) (a .ref-width) (a .ref-height) (a .ref-stride) (a .mv-x) (a .mv-y) (a .w) (a .h)
-farBits c =
-    let s = c .before .before .before .before .before .before .before .before .before in
-    let a = s .args in
-    of-bits (λ x y. c .outside-edges .result ≡ outsideEdges (length (a .reference .now)) (a .ref-width) (a .ref-height) (a .ref-stride) x y (a .w) (a .h))
-    (s .fits .mv-x) (s .fits .mv-y) (c .outside-edges .ensures)
-
 two :
     (c : tie.Else4) →
     let a = c .before .before .before .before .before .before .before .before .before .before .args in
     outsideEdges (length (a .reference .now)) (a .ref-width) (a .ref-height) (a .ref-stride) (a .mv-x) (a .mv-y) (a .w) (a .h) ≡ false
-two c = sym (farBits (c .before)) ∙ c .if4 .left
+two c =
+    let f = c .before .before .before .before .before .before .before .before .before .before .fits in
+    rw (toZ-ofZ (f .mv-x), toZ-ofZ (f .mv-y)) at (sym (c .before .outside-edges .ensures) ∙ c .if4 .left)
 
 bad-sides-requires : tie.Need-bad-sides-requires
 bad-sides-requires c κs = search needs
@@ -72,8 +63,9 @@ outside-edges-requires c κs = search needs
 
 returns-4 : tie.Need-returns-4
 returns-4 c =
+    let f = c .before .before .before .before .before .before .before .before .before .before .fits in
     sad-second _ _ _ _ _ (sized (c .before .before .before .before .before .before)) (deep (c .before .before .before .before)) (one (c .before .before))
-    (sym (farBits (c .before)) ∙ c .if4 .taken)
+    (rw (toZ-ofZ (f .mv-x), toZ-ofZ (f .mv-y)) at (sym (c .before .outside-edges .ensures) ∙ c .if4 .taken))
 
 -- so the first block lies inside its buffer, and the second reads inside the plane
 ready :
@@ -82,14 +74,10 @@ ready :
     AtEdges (a .w) (a .h) (length (a .org .now)) (a .y * a .stride + a .x) (a .stride) (length (a .reference .now)) (a .ref-stride) (a .mv-x) (a .mv-y)
 ready c =
     let a = c .before .before .before .before .before .before .before .before .before .before .args in
-    let s = sized (c .before .before .before .before .before .before) in
-    let w = outside-no 1 64 (a .w) (neither-left (outside 1 64 (a .w)) (outside 1 64 (a .h)) s) in
-    let h = outside-no 1 64 (a .h) (neither-right (outside 1 64 (a .w)) (outside 1 64 (a .h)) s) in
+    let k = sad-sides (a .w) (a .h) (sized (c .before .before .before .before .before .before)) in
     record {
-      one =
-          rows-inside (length (a .org .now)) (a .width) (a .height) (a .stride) (a .x) (a .y) (a .w) (a .h) (h .0)
-          (is-inside (length (a .org .now)) (a .width) (a .height) (a .stride) (a .x) (a .y) (a .w) (a .h) (one (c .before .before)));
-      two = edges-in (length (a .reference .now)) (a .ref-width) (a .ref-height) (a .ref-stride) (a .mv-x) (a .mv-y) (a .w) (a .h) w h (two c);
+      one = plane-holds (length (a .org .now)) (a .width) (a .height) (a .stride) (a .x) (a .y) (a .w) (a .h) (k .1 .0) (one (c .before .before));
+      two = edges-in (length (a .reference .now)) (a .ref-width) (a .ref-height) (a .ref-stride) (a .mv-x) (a .mv-y) (a .w) (a .h) (k .0) (k .1) (two c);
     }
 
 mul-total : tie.Need-mul-total
@@ -100,39 +88,23 @@ add-total c = omega (arith, ready c .one)
 
 total-requires : tie.Need-total-requires
 total-requires c κs =
-    let s = c .before .before .before .before .before .before .before .before .before .before in
-    let a = s .args in
-    as-bits (λ x y. AtEdges (a .w) (a .h) (length (a .org .now)) (a .y * a .stride + a .x) (a .stride) (length (a .reference .now)) (a .ref-stride) x y)
-    (s .fits .mv-x) (s .fits .mv-y) (ready c)
+    let f = c .before .before .before .before .before .before .before .before .before .before .fits in
+    rw (toZ-ofZ (f .mv-x), toZ-ofZ (f .mv-y)) (ready c)
 
 sad-answer-requires : tie.Need-sad-answer-requires
 sad-answer-requires c κs = search needs
 
--- what was told, of the positions themselves
-told :
-    (c : tie.After-sad-answer) →
-    let a = c .before .before .before .before .before .before .before .before .before .before .before .before .args in
-    BlocksTotalled (64 * (64 * 65535)) apart bitOr (a .w) (a .h) (cell 0 (a .org .now) (a .y * a .stride + a .x) (a .stride)) (edgeCell (a .reference .now) (a .ref-stride) (a .mv-x) (a .mv-y))
-    (c .before .total .result .sum) (c .before .total .result .any)
-told c =
-    let s = c .before .before .before .before .before .before .before .before .before .before .before .before in
-    let a = s .args in
-    of-bits
-    (λ x y.
-    BlocksTotalled (64 * (64 * 65535)) apart bitOr (a .w) (a .h) (cell 0 (a .org .now) (a .y * a .stride + a .x) (a .stride)) (edgeCell (a .reference .now) (a .ref-stride) x y)
-    (c .before .total .result .sum) (c .before .total .result .any))
-    (s .fits .mv-x) (s .fits .mv-y) (c .before .total .ensures)
-
 returns-5 : tie.Need-returns-5
 returns-5 c =
-    let a = c .before .before .before .before .before .before .before .before .before .before .before .before .args in
-    let p = plane-alike (a .org .now) (a .width) (a .height) (a .stride) (a .x) (a .y) (a .w) (a .h) (a .depth) (a .y * a .stride + a .x) refl in
-    let q = edges-alike (a .reference .now) (a .ref-width) (a .ref-height) (a .ref-stride) (a .mv-x) (a .mv-y) (a .w) (a .h) (a .depth) in
-    c .sad-answer .ensures
-    ∙ sad-totalled (a .w) (a .h) (a .depth) (cell 0 (a .org .now) (a .y * a .stride + a .x) (a .stride)) (edgeCell (a .reference .now) (a .ref-stride) (a .mv-x) (a .mv-y))
-    (outside-no 8 14 (a .depth) (deep (c .before .before .before .before .before .before))) (told c)
-    ∙ rest-alike p q _ _ (ap (λ (n : ℕ). n / 2 ^ (a .depth - 8)) (sad-alike p q))
-    ∙ sad-rest _ _ _ _ _ (sized (c .before .before .before .before .before .before .before .before)) (deep (c .before .before .before .before .before .before)) (one (c .before .before .before .before)) (two (c .before .before))
+    let e = c .before .before in
+    let d = deep (e .before .before .before .before) in
+    let s = e .before .before .before .before .before .before .before .before .before .before in
+    let a = s .args in
+    sad-ends (plane-alike (a .org .now) (a .width) (a .height) (a .stride) (a .x) (a .y) (a .w) (a .h) (a .depth) (a .y * a .stride + a .x) refl)
+    (edges-alike (a .reference .now) (a .ref-width) (a .ref-height) (a .ref-stride) (a .mv-x) (a .mv-y) (a .w) (a .h) (a .depth)) (a .depth)
+    (c .sad-answer .ensures
+    ∙ sad-totalled _ _ _ _ _ (outside-no 8 14 (a .depth) d) (rw (toZ-ofZ (s .fits .mv-x), toZ-ofZ (s .fits .mv-y)) at (c .before .total .ensures)))
+    (sized (e .before .before .before .before .before .before)) d (one (e .before .before)) (two e)
 
 pub evce-sad-16b-spec : {M : Type 1} → statement M
 evce-sad-16b-spec =

@@ -1,18 +1,16 @@
 -- `sad::sad::evce_sad_16i` meets its contract: each refusal is the first broken test, and what is left is read alike. Assumes nothing.
-use mathlib.Core.Path.{_≡_, refl, sym, ap, _∙_}
+use mathlib.Core.Path.{_≡_, refl, sym, _∙_}
 use mathlib.Core.Bool.{false, _||_}
-use Prim.Native.Nat.{ℕ, _+_, _*_, _-_, _/_, _^_}
+use Prim.Native.Nat.{_+_, _*_}
 use native.Mathlib.Omega.{arith}
 use borrow.Author.Needs.{needs}
 use lib.ListN.{length}
-use Rattle.integers.proofs.Bools.{neither-left, neither-right}
 use Rattle.evc.specs.Tests.{outside}
 use Rattle.evc.proofs.Tests.{outside-no}
 use Rattle.plane_tests.specs.Areas.{outsidePlane}
-use Rattle.plane_tests.specs.Blocks.{TwoBlocks, cell}
-use Rattle.plane_tests.proofs.Planes.{is-inside, rows-inside, plane-alike}
-use Rattle.plane_tests.proofs.Replies.{rest-alike}
-use Rattle.sad_answer.proofs.Sads.{sad-alike, sad-size, sad-depth, sad-area, sad-second, sad-rest}
+use Rattle.plane_tests.specs.Blocks.{TwoBlocks}
+use Rattle.plane_tests.proofs.Planes.{planes-hold, plane-alike}
+use Rattle.sad_answer.proofs.Sads.{sad-size, sad-depth, sad-area, sad-second, sad-sides, sad-ends}
 use Rattle.sad.proofs.Ends.{sad-totalled}
 use Rattle.sad.proofs.sad.evce_sad_16i.Statement.{statement}
 use Rattle.sad.proofs.sad.evce_sad_16i.Tie as tie
@@ -24,10 +22,16 @@ sized c = sym (c .before .bad-sides .ensures) ∙ c .if1 .left
 deep : (c : tie.Else2) → outside 8 14 (c .before .before .before .before .before .before .args .depth) ≡ false
 deep c = sym (c .before .bad-depth .ensures) ∙ c .if2 .left
 
-one : (c : tie.Else3) → let a = c .before .before .before .before .before .before .before .before .args in outsidePlane (length (a .org .now)) (a .width) (a .height) (a .stride) (a .x) (a .y) (a .w) (a .h) ≡ false
+one :
+    (c : tie.Else3) →
+    let a = c .before .before .before .before .before .before .before .before .args in
+    outsidePlane (length (a .org .now)) (a .width) (a .height) (a .stride) (a .x) (a .y) (a .w) (a .h) ≡ false
 one c = sym (c .before .outside-plane .ensures) ∙ c .if3 .left
 
-two : (c : tie.Else4) → let a = c .before .before .before .before .before .before .before .before .before .before .args in outsidePlane (length (a .pred .now)) (a .w) (a .h) (a .w) 0 0 (a .w) (a .h) ≡ false
+two :
+    (c : tie.Else4) →
+    let a = c .before .before .before .before .before .before .before .before .before .before .args in
+    outsidePlane (length (a .pred .now)) (a .w) (a .h) (a .w) 0 0 (a .w) (a .h) ≡ false
 two c = sym (c .before .outside-plane2 .ensures) ∙ c .if4 .left
 
 bad-sides-requires : tie.Need-bad-sides-requires
@@ -64,17 +68,8 @@ blocks :
     TwoBlocks (a .w) (a .h) (length (a .org .now)) (a .y * a .stride + a .x) (a .stride) (length (a .pred .now)) 0 (a .w)
 blocks c =
     let a = c .before .before .before .before .before .before .before .before .before .before .args in
-    let s = sized (c .before .before .before .before .before .before) in
-    let w = outside-no 1 64 (a .w) (neither-left (outside 1 64 (a .w)) (outside 1 64 (a .h)) s) in
-    let h = outside-no 1 64 (a .h) (neither-right (outside 1 64 (a .w)) (outside 1 64 (a .h)) s) in
-    record {
-      narrow = w .1;
-      low = h .1;
-      one =
-          rows-inside (length (a .org .now)) (a .width) (a .height) (a .stride) (a .x) (a .y) (a .w) (a .h) (h .0)
-          (is-inside (length (a .org .now)) (a .width) (a .height) (a .stride) (a .x) (a .y) (a .w) (a .h) (one (c .before .before)));
-      two = omega (arith, is-inside (length (a .pred .now)) (a .w) (a .h) (a .w) 0 0 (a .w) (a .h) (two c) .formed .long);
-    }
+    let k = sad-sides (a .w) (a .h) (sized (c .before .before .before .before .before .before)) in
+    planes-hold (length (a .org .now)) (a .width) (a .height) (a .stride) (a .x) (a .y) (length (a .pred .now)) (a .w) (a .h) (k .0) (k .1) (one (c .before .before)) (two c)
 
 mul-sad-block : tie.Need-mul-sad-block
 mul-sad-block c = omega (arith, blocks c .one)
@@ -90,14 +85,13 @@ sad-answer-requires c κs = search needs
 
 returns-5 : tie.Need-returns-5
 returns-5 c =
-    let a = c .before .before .before .before .before .before .before .before .before .before .before .before .args in
-    let p = plane-alike (a .org .now) (a .width) (a .height) (a .stride) (a .x) (a .y) (a .w) (a .h) (a .depth) (a .y * a .stride + a .x) refl in
-    let q = plane-alike (a .pred .now) (a .w) (a .h) (a .w) 0 0 (a .w) (a .h) (a .depth) 0 (omega arith) in
-    c .sad-answer .ensures
-    ∙ sad-totalled (a .w) (a .h) (a .depth) (cell 0 (a .org .now) (a .y * a .stride + a .x) (a .stride)) (cell 0 (a .pred .now) 0 (a .w))
-    (outside-no 8 14 (a .depth) (deep (c .before .before .before .before .before .before))) (c .before .sad-block .ensures)
-    ∙ rest-alike p q _ _ (ap (λ (n : ℕ). n / 2 ^ (a .depth - 8)) (sad-alike p q))
-    ∙ sad-rest _ _ _ _ _ (sized (c .before .before .before .before .before .before .before .before)) (deep (c .before .before .before .before .before .before)) (one (c .before .before .before .before)) (two (c .before .before))
+    let e = c .before .before in
+    let d = deep (e .before .before .before .before) in
+    let a = e .before .before .before .before .before .before .before .before .before .before .args in
+    sad-ends (plane-alike (a .org .now) (a .width) (a .height) (a .stride) (a .x) (a .y) (a .w) (a .h) (a .depth) (a .y * a .stride + a .x) refl)
+    (plane-alike (a .pred .now) (a .w) (a .h) (a .w) 0 0 (a .w) (a .h) (a .depth) 0 (omega arith)) (a .depth)
+    (c .sad-answer .ensures ∙ sad-totalled _ _ _ _ _ (outside-no 8 14 (a .depth) d) (c .before .sad-block .ensures))
+    (sized (e .before .before .before .before .before .before)) d (one (e .before .before)) (two e)
 
 pub evce-sad-16i-spec : {M : Type 1} → statement M
 evce-sad-16i-spec =

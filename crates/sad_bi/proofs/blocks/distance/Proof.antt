@@ -1,7 +1,7 @@
 -- `sad_bi::blocks::distance` meets its contract. Assumes nothing.
 use mathlib.Core.Path.{ap, _∙_, subst₂}
 use mathlib.Core.List.{[], _∷_}
-use Prim.Native.Nat.{ℕ, _≤_}
+use Prim.Native.Nat.{ℕ}
 use native.Mathlib.Omega.{arith}
 use borrow.Author.Needs.{needs}
 use lib.IntN.{ℤ, pos, natAbs}

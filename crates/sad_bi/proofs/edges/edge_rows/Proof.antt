@@ -7,15 +7,15 @@ use lib.IntN.{pos}
 use lib.ListN.{length}
 use mir.Syntax.{w16}
 use mir.Val.{toZ, ofZ}
+use mir.Facts.{toZ-ofZ}
 use Rattle.integers.specs.Sum.{sumN}
 use Rattle.integers.specs.Or.{orN}
 use Rattle.plane_tests.specs.Blocks.{cell}
 use Rattle.plane_tests.proofs.Planes.{row-in}
-use Rattle.block_rows.specs.Totals.{BlocksTotalled}
 use Rattle.block_rows.specs.Edges.{edgeCell}
 use Rattle.block_rows.proofs.Running.{Running, running-start, running-row, running-end, running-next}
 use Rattle.block_rows.proofs.Cells.{rows-alike}
-use Rattle.block_rows.proofs.AtEdges.{row-starts, edge-same, of-bits}
+use Rattle.block_rows.proofs.AtEdges.{row-starts, edge-same}
 use Rattle.sad_bi.specs.Totals.{apartBi, markBi}
 use Rattle.sad_bi.proofs.Packed.{packed-length, packed-same}
 use Rattle.sad_bi.proofs.edges.edge_rows.Statement.{statement}
@@ -113,12 +113,7 @@ loop-again c =
 returns : tie.Need-returns Inv-loop μ-loop
 returns c =
     let s = c .before .before .before in
-    let a = s .args in
-    of-bits
-    (λ x y.
-    BlocksTotalled (64 * (64 * 98303)) apartBi markBi (a .w) (a .h) (cell (pos 0) (a .bi .now) 0 (a .w)) (edgeCell (a .reference .now) (a .ref-stride) x y)
-    (c .before .loop .sum) (c .before .loop .any))
-    (s .fits .mv-x) (s .fits .mv-y) (running-end (c .before .loop .inv) (omega arith) (s .pre .two .low))
+    rw (toZ-ofZ (s .fits .mv-x), toZ-ofZ (s .fits .mv-y)) at (running-end (c .before .loop .inv) (omega arith) (s .pre .two .low))
 
 pub edge-rows-spec : {M : Type 1} → statement M
 edge-rows-spec =

@@ -3,11 +3,10 @@ use Prim.Native.Nat.{_+_, _*_, _<_}
 use native.Mathlib.Omega.{arith}
 use lib.IntN.{pos}
 use lib.ListN.{length}
+use mir.Facts.{toZ-ofZ}
 use Rattle.plane_tests.specs.Blocks.{cell}
-use Rattle.block_rows.specs.Edges.{edgeCell}
-use Rattle.block_rows.proofs.AtEdges.{of-bits, Plain, is-plain, stands, stands-in, plain-same, plain-inside}
+use Rattle.block_rows.proofs.AtEdges.{Plain, is-plain, stands, stands-in, plain-same, plain-inside}
 use borrow.Author.Needs.{needs}
-use Rattle.sad_bi.specs.Totals.{BiCounted}
 use Rattle.sad_bi.proofs.Ends.{counted-all, counted-ext}
 use Rattle.sad_bi.proofs.edges.total.Statement.{statement}
 use Rattle.sad_bi.proofs.edges.total.Tie as tie
@@ -32,10 +31,7 @@ edge-rows-requires c κs = search needs
 returns : tie.Need-returns
 returns c =
     let s = c .before .before .before .before in
-    let a = s .args in
-    of-bits
-    (λ x y. BiCounted (a .w) (a .h) (cell (pos 0) (a .bi .now) 0 (a .w)) (edgeCell (a .reference .now) (a .ref-stride) x y) (c .edge-rows .result .sum) (c .edge-rows .result .any))
-    (s .fits .mv-x) (s .fits .mv-y) (counted-all (a .w) (a .h) _ _ (c .edge-rows .ensures))
+    counted-all (s .args .w) (s .args .h) _ _ (rw (toZ-ofZ (s .fits .mv-x), toZ-ofZ (s .fits .mv-y)) at (c .edge-rows .ensures))
 
 row-start-requires : tie.Need-row-start-requires
 row-start-requires c κs = search needs

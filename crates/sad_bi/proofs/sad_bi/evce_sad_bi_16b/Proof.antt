@@ -1,21 +1,16 @@
 -- `sad_bi::sad_bi::evce_sad_bi_16b` meets its contract: each refusal is the first broken test, and what is left is read alike. Assumes nothing.
-use mathlib.Core.Path.{_≡_, sym, ap, _∙_}
+use mathlib.Core.Path.{_≡_, sym, _∙_}
 use mathlib.Core.Bool.{false, _||_}
-use Prim.Native.Nat.{ℕ, _-_, _/_, _^_}
 use borrow.Author.Needs.{needs}
-use lib.IntN.{pos}
 use lib.ListN.{length}
-use Rattle.integers.proofs.Bools.{neither-left, neither-right}
+use mir.Facts.{toZ-ofZ}
 use Rattle.evc.specs.Tests.{outside}
 use Rattle.evc.proofs.Tests.{outside-no}
 use Rattle.plane_tests.specs.Areas.{badPlane, outsideEdges}
-use Rattle.plane_tests.specs.Blocks.{cell}
 use Rattle.plane_tests.proofs.Planes.{well-formed}
-use Rattle.plane_tests.proofs.Replies.{rest-alike}
-use Rattle.block_rows.specs.Edges.{edgeCell, AtEdges}
-use Rattle.sad_answer.proofs.Sads.{sad-alike, sad-size, sad-depth, sad-area, sad-second, sad-rest}
-use Rattle.block_rows.proofs.AtEdges.{edges-in, edges-alike, as-bits, of-bits}
-use Rattle.sad_bi.specs.Totals.{BiCounted}
+use Rattle.block_rows.specs.Edges.{AtEdges}
+use Rattle.block_rows.proofs.AtEdges.{edges-in, edges-alike}
+use Rattle.sad_answer.proofs.Sads.{sad-size, sad-depth, sad-area, sad-second, sad-sides, sad-ends}
 use Rattle.sad_bi.proofs.Ends.{bi-alike, bi-totalled}
 use Rattle.sad_bi.proofs.sad_bi.evce_sad_bi_16b.Statement.{statement}
 use Rattle.sad_bi.proofs.sad_bi.evce_sad_bi_16b.Tie as tie
@@ -33,21 +28,13 @@ one :
 one c = sym (c .before .bad-plane .ensures) ∙ c .if3 .left
 
 -- the positions come as their bits
-farBits :
-    (c : tie.After-outside-edges) →
-    let a = c .before .before .before .before .before .before .before .before .args in
-    c .outside-edges .result ≡ outsideEdges (length (a .reference .now)) (a .ref-width) (a .ref-height) (a .ref-stride) (a .mv-x) (a .mv-y) (a .w) (a .h)
-farBits c =
-    let s = c .before .before .before .before .before .before .before .before in
-    let a = s .args in
-    of-bits (λ x y. c .outside-edges .result ≡ outsideEdges (length (a .reference .now)) (a .ref-width) (a .ref-height) (a .ref-stride) x y (a .w) (a .h))
-    (s .fits .mv-x) (s .fits .mv-y) (c .outside-edges .ensures)
-
 two :
     (c : tie.Else4) →
     let a = c .before .before .before .before .before .before .before .before .before .args in
     outsideEdges (length (a .reference .now)) (a .ref-width) (a .ref-height) (a .ref-stride) (a .mv-x) (a .mv-y) (a .w) (a .h) ≡ false
-two c = sym (farBits (c .before)) ∙ c .if4 .left
+two c =
+    let f = c .before .before .before .before .before .before .before .before .before .fits in
+    rw (toZ-ofZ (f .mv-x), toZ-ofZ (f .mv-y)) at (sym (c .before .outside-edges .ensures) ∙ c .if4 .left)
 
 bad-sides-requires : tie.Need-bad-sides-requires
 bad-sides-requires c κs = search needs
@@ -72,48 +59,42 @@ outside-edges-requires c κs = search needs
 
 returns-4 : tie.Need-returns-4
 returns-4 c =
+    let f = c .before .before .before .before .before .before .before .before .before .fits in
     sad-second _ _ _ _ _ (sized (c .before .before .before .before .before .before)) (deep (c .before .before .before .before)) (one (c .before .before))
-    (sym (farBits (c .before)) ∙ c .if4 .taken)
+    (rw (toZ-ofZ (f .mv-x), toZ-ofZ (f .mv-y)) at (sym (c .before .outside-edges .ensures) ∙ c .if4 .taken))
 
 -- so the values lie inside their buffer, and the block reads inside the plane
 ready :
     (c : tie.Else4) →
-    let a = c .before .before .before .before .before .before .before .before .before .args in AtEdges (a .w) (a .h) (length (a .bi .now)) 0 (a .w) (length (a .reference .now)) (a .ref-stride) (a .mv-x) (a .mv-y)
+    let a = c .before .before .before .before .before .before .before .before .before .args in
+    AtEdges (a .w) (a .h) (length (a .bi .now)) 0 (a .w) (length (a .reference .now)) (a .ref-stride) (a .mv-x) (a .mv-y)
 ready c =
     let a = c .before .before .before .before .before .before .before .before .before .args in
-    let s = sized (c .before .before .before .before .before .before) in
-    let w = outside-no 1 64 (a .w) (neither-left (outside 1 64 (a .w)) (outside 1 64 (a .h)) s) in
-    let h = outside-no 1 64 (a .h) (neither-right (outside 1 64 (a .w)) (outside 1 64 (a .h)) s) in
+    let k = sad-sides (a .w) (a .h) (sized (c .before .before .before .before .before .before)) in
     record {
       one = well-formed (length (a .bi .now)) (a .w) (a .h) (a .w) (one (c .before .before)) .long;
-      two = edges-in (length (a .reference .now)) (a .ref-width) (a .ref-height) (a .ref-stride) (a .mv-x) (a .mv-y) (a .w) (a .h) w h (two c);
+      two = edges-in (length (a .reference .now)) (a .ref-width) (a .ref-height) (a .ref-stride) (a .mv-x) (a .mv-y) (a .w) (a .h) (k .0) (k .1) (two c);
     }
 
 total-requires : tie.Need-total-requires
 total-requires c κs =
-    let t = c .before .before .before .before .before .before .before .before .before in
-    let a = t .args in
-    as-bits (λ x y. AtEdges (a .w) (a .h) (length (a .bi .now)) 0 (a .w) (length (a .reference .now)) (a .ref-stride) x y) (t .fits .mv-x) (t .fits .mv-y) (ready c)
+    let f = c .before .before .before .before .before .before .before .before .before .fits in
+    rw (toZ-ofZ (f .mv-x), toZ-ofZ (f .mv-y)) (ready c)
 
 sad-answer-requires : tie.Need-sad-answer-requires
 sad-answer-requires c κs = search needs
 
 returns-5 : tie.Need-returns-5
 returns-5 c =
-    let s = c .before .before .before .before .before .before .before .before .before .before .before in
+    let e = c .before .before in
+    let d = deep (e .before .before .before .before) in
+    let s = e .before .before .before .before .before .before .before .before .before in
     let a = s .args in
-    let p = bi-alike (a .bi .now) (a .w) (a .h) in
-    let q = edges-alike (a .reference .now) (a .ref-width) (a .ref-height) (a .ref-stride) (a .mv-x) (a .mv-y) (a .w) (a .h) (a .depth) in
-    c .sad-answer .ensures
-    ∙ bi-totalled (a .w) (a .h) (a .depth) (cell (pos 0) (a .bi .now) 0 (a .w)) (edgeCell (a .reference .now) (a .ref-stride) (a .mv-x) (a .mv-y))
-    (outside-no 8 14 (a .depth) (deep (c .before .before .before .before .before .before)))
-    (of-bits
-    (λ x y.
-    BiCounted (a .w) (a .h) (cell (pos 0) (a .bi .now) 0 (a .w)) (edgeCell (a .reference .now) (a .ref-stride) x y) (c .before .total .result .sum)
-    (c .before .total .result .any))
-    (s .fits .mv-x) (s .fits .mv-y) (c .before .total .ensures))
-    ∙ rest-alike p q _ _ (ap (λ (n : ℕ). n / 2 ^ (a .depth - 8)) (sad-alike p q))
-    ∙ sad-rest _ _ _ _ _ (sized (c .before .before .before .before .before .before .before .before)) (deep (c .before .before .before .before .before .before)) (one (c .before .before .before .before)) (two (c .before .before))
+    sad-ends (bi-alike (a .bi .now) (a .w) (a .h))
+    (edges-alike (a .reference .now) (a .ref-width) (a .ref-height) (a .ref-stride) (a .mv-x) (a .mv-y) (a .w) (a .h) (a .depth)) (a .depth)
+    (c .sad-answer .ensures
+    ∙ bi-totalled _ _ _ _ _ (outside-no 8 14 (a .depth) d) (rw (toZ-ofZ (s .fits .mv-x), toZ-ofZ (s .fits .mv-y)) at (c .before .total .ensures)))
+    (sized (e .before .before .before .before .before .before)) d (one (e .before .before)) (two e)
 
 pub evce-sad-bi-16b-spec : {M : Type 1} → statement M
 evce-sad-bi-16b-spec =

@@ -1,19 +1,14 @@
 -- `sad_bi::sad_bi::evce_sad_bi_16i` meets its contract: each refusal is the first broken test, and what is left is read alike. Assumes nothing.
-use mathlib.Core.Path.{_≡_, sym, ap, _∙_}
+use mathlib.Core.Path.{_≡_, sym, _∙_}
 use mathlib.Core.Bool.{false, _||_}
-use Prim.Native.Nat.{ℕ, _-_, _/_, _^_}
 use native.Mathlib.Omega.{arith}
 use borrow.Author.Needs.{needs}
-use lib.IntN.{pos}
 use lib.ListN.{length}
-use Rattle.integers.proofs.Bools.{neither-left, neither-right}
 use Rattle.evc.specs.Tests.{outside}
 use Rattle.evc.proofs.Tests.{outside-no}
 use Rattle.plane_tests.specs.Areas.{badPlane, outsidePlane}
 use Rattle.plane_tests.proofs.Planes.{well-formed, is-inside, plane-alike}
-use Rattle.plane_tests.proofs.Replies.{rest-alike}
-use Rattle.sad_answer.proofs.Sads.{sad-alike, sad-size, sad-depth, sad-area, sad-second, sad-rest}
-use Rattle.plane_tests.specs.Blocks.{cell}
+use Rattle.sad_answer.proofs.Sads.{sad-size, sad-depth, sad-area, sad-second, sad-sides, sad-ends}
 use Rattle.sad_bi.proofs.Ends.{bi-alike, bi-totalled}
 use Rattle.sad_bi.proofs.sad_bi.evce_sad_bi_16i.Statement.{statement}
 use Rattle.sad_bi.proofs.sad_bi.evce_sad_bi_16i.Tie as tie
@@ -65,10 +60,10 @@ returns-4 c =
 total-requires : tie.Need-total-requires
 total-requires c κs =
     let a = c .before .before .before .before .before .before .before .before .before .args in
-    let s = sized (c .before .before .before .before .before .before) in
+    let k = sad-sides (a .w) (a .h) (sized (c .before .before .before .before .before .before)) in
     record {
-      narrow = outside-no 1 64 (a .w) (neither-left (outside 1 64 (a .w)) (outside 1 64 (a .h)) s) .1;
-      low = outside-no 1 64 (a .h) (neither-right (outside 1 64 (a .w)) (outside 1 64 (a .h)) s) .1;
+      narrow = k .0 .1;
+      low = k .1 .1;
       one = well-formed (length (a .bi .now)) (a .w) (a .h) (a .w) (one (c .before .before)) .long;
       two = is-inside (length (a .pred .now)) (a .w) (a .h) (a .w) 0 0 (a .w) (a .h) (two c) .formed .long;
     }
@@ -78,14 +73,12 @@ sad-answer-requires c κs = search needs
 
 returns-5 : tie.Need-returns-5
 returns-5 c =
-    let a = c .before .before .before .before .before .before .before .before .before .before .before .args in
-    let p = bi-alike (a .bi .now) (a .w) (a .h) in
-    let q = plane-alike (a .pred .now) (a .w) (a .h) (a .w) 0 0 (a .w) (a .h) (a .depth) 0 (omega arith) in
-    c .sad-answer .ensures
-    ∙ bi-totalled (a .w) (a .h) (a .depth) (cell (pos 0) (a .bi .now) 0 (a .w)) (cell 0 (a .pred .now) 0 (a .w)) (outside-no 8 14 (a .depth) (deep (c .before .before .before .before .before .before)))
-    (c .before .total .ensures)
-    ∙ rest-alike p q _ _ (ap (λ (n : ℕ). n / 2 ^ (a .depth - 8)) (sad-alike p q))
-    ∙ sad-rest _ _ _ _ _ (sized (c .before .before .before .before .before .before .before .before)) (deep (c .before .before .before .before .before .before)) (one (c .before .before .before .before)) (two (c .before .before))
+    let e = c .before .before in
+    let d = deep (e .before .before .before .before) in
+    let a = e .before .before .before .before .before .before .before .before .before .args in
+    sad-ends (bi-alike (a .bi .now) (a .w) (a .h)) (plane-alike (a .pred .now) (a .w) (a .h) (a .w) 0 0 (a .w) (a .h) (a .depth) 0 (omega arith)) (a .depth)
+    (c .sad-answer .ensures ∙ bi-totalled _ _ _ _ _ (outside-no 8 14 (a .depth) d) (c .before .total .ensures))
+    (sized (e .before .before .before .before .before .before)) d (one (e .before .before)) (two e)
 
 pub evce-sad-bi-16i-spec : {M : Type 1} → statement M
 evce-sad-bi-16i-spec =

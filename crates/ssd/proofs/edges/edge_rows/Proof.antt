@@ -6,13 +6,13 @@ use lib.Bits.{bitOr}
 use lib.ListN.{length}
 use mir.Syntax.{w16}
 use mir.Val.{toZ, ofZ}
+use mir.Facts.{toZ-ofZ}
 use Rattle.integers.specs.Sum.{sumN}
 use Rattle.integers.specs.Or.{orN}
-use Rattle.block_rows.specs.Totals.{BlocksTotalled}
 use Rattle.block_rows.specs.Edges.{edgeCell}
 use Rattle.block_rows.proofs.Running.{Running, running-start, running-row, running-end, running-next}
 use Rattle.block_rows.proofs.Cells.{rows-alike}
-use Rattle.block_rows.proofs.AtEdges.{row-starts, edge-same, of-bits}
+use Rattle.block_rows.proofs.AtEdges.{row-starts, edge-same}
 use Rattle.ssd.specs.Squares.{squaredLow}
 use Rattle.ssd.proofs.edges.edge_rows.Statement.{statement}
 use Rattle.ssd.proofs.edges.edge_rows.Tie as tie
@@ -101,12 +101,7 @@ loop-again c =
 returns : tie.Need-returns Inv-loop μ-loop
 returns c =
     let s = c .before .before .before .before in
-    let a = s .args in
-    of-bits
-    (λ x y.
-    BlocksTotalled (64 * (64 * 65535)) (squaredLow (a .depth)) bitOr (a .w) (a .h) (edgeCell (a .one .now) (a .stride1) x y) (edgeCell (a .two .now) (a .stride2) x y)
-    (c .before .loop .sum) (c .before .loop .any))
-    (s .fits .x) (s .fits .y) (running-end (c .before .loop .inv) (omega arith) (s .pre .0 .low))
+    rw (toZ-ofZ (s .fits .x), toZ-ofZ (s .fits .y)) at (running-end (c .before .loop .inv) (omega arith) (s .pre .0 .low))
 
 pub edge-rows-spec : {M : Type 1} → statement M
 edge-rows-spec =

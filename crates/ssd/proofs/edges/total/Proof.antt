@@ -4,10 +4,9 @@ use native.Mathlib.Omega.{arith}
 use borrow.Author.Needs.{needs}
 use lib.Bits.{bitOr}
 use lib.ListN.{length}
-use Rattle.block_rows.specs.Totals.{BlocksTotalled}
-use Rattle.block_rows.specs.Edges.{edgeCell}
+use mir.Facts.{toZ-ofZ}
 use Rattle.block_rows.proofs.Cells.{blocks-alike}
-use Rattle.block_rows.proofs.AtEdges.{of-bits, Plain, is-plain, stands, stands-in, plain-same, plain-inside}
+use Rattle.block_rows.proofs.AtEdges.{Plain, is-plain, stands, stands-in, plain-same, plain-inside}
 use Rattle.ssd.specs.Squares.{squaredLow}
 use Rattle.ssd.proofs.edges.total.Statement.{statement}
 use Rattle.ssd.proofs.edges.total.Tie as tie
@@ -30,14 +29,7 @@ edge-rows-requires : tie.Need-edge-rows-requires
 edge-rows-requires c κs = search needs
 
 returns : tie.Need-returns
-returns c =
-    let s = c .before .before .before .before .before in
-    let a = s .args in
-    of-bits
-    (λ x y.
-    BlocksTotalled (64 * (64 * 65535)) (squaredLow (a .depth)) bitOr (a .w) (a .h) (edgeCell (a .one .now) (a .stride1) x y) (edgeCell (a .two .now) (a .stride2) x y)
-    (c .edge-rows .result .sum) (c .edge-rows .result .any))
-    (s .fits .x) (s .fits .y) (c .edge-rows .ensures)
+returns c = let f = c .before .before .before .before .before .fits in rw (toZ-ofZ (f .x), toZ-ofZ (f .y)) at (c .edge-rows .ensures)
 
 row-start-requires : tie.Need-row-start-requires
 row-start-requires c κs = search needs

@@ -1,20 +1,18 @@
 -- `ssd::ssd::evce_ssd_16b` meets its contract: each refusal is the first broken test, and what is left is read alike. Assumes nothing.
-use mathlib.Core.Path.{_≡_, refl, sym, ap, _∙_}
+use mathlib.Core.Path.{_≡_, refl, sym, _∙_}
 use mathlib.Core.Bool.{false, _||_}
-use Prim.Native.Nat.{ℕ, _+_, _*_, _-_, _^_}
+use Prim.Native.Nat.{ℕ, _+_, _*_}
 use native.Mathlib.Omega.{arith}
 use borrow.Author.Needs.{needs}
 use lib.Dec.{ltb}
-use lib.IntN.{pos}
 use lib.ListN.{length}
 use Rattle.evc.specs.Tests.{outside}
 use Rattle.evc.specs.Planes.{Block, inPlane, inPacked, planeOf}
 use Rattle.evc.proofs.Tests.{outside-no}
 use Rattle.plane_tests.specs.Areas.{outsidePlane}
-use Rattle.plane_tests.specs.Blocks.{TwoBlocks, cell}
-use Rattle.plane_tests.proofs.Planes.{is-inside, rows-inside, plane-alike}
-use Rattle.plane_tests.proofs.Replies.{rest-alike}
-use Rattle.plane_tests.proofs.SmallSides.{logs-small, side-small, shifted, shifted-is}
+use Rattle.plane_tests.specs.Blocks.{TwoBlocks}
+use Rattle.plane_tests.proofs.Planes.{planes-hold, plane-alike}
+use Rattle.plane_tests.proofs.SmallSides.{logs-small, shifted, shifted-sides}
 use Rattle.ssd.proofs.Ends.{ssd-alike, ssd-totalled}
 use Rattle.ssd.proofs.Logs.{ssd-size, ssd-depth, ssd-area, ssd-second, ssd-rest}
 use Rattle.ssd.proofs.ssd.evce_ssd_16b.Statement.{statement}
@@ -57,13 +55,6 @@ returns c =
     let a = c .before .before .before .before .args in
     ssd-size (a .log2-w) (a .log2-h) (a .depth) (A (c .before .before)) (B (c .before .before)) (sym (c .before .bad-logs .ensures) ∙ c .if1 .taken)
 
--- the sides
-wide : (c : tie.Else1) → let a = c .before .before .before .before .args in shifted (a .log2-w) ≡ 2 ^ a .log2-w
-wide c = let a = c .before .before .before .before .args in shifted-is (a .log2-w) (logs-small (a .log2-w) (a .log2-h) (sized c) .0)
-
-high : (c : tie.Else1) → let a = c .before .before .before .before .args in shifted (a .log2-h) ≡ 2 ^ a .log2-h
-high c = let a = c .before .before .before .before .args in shifted-is (a .log2-h) (logs-small (a .log2-w) (a .log2-h) (sized c) .1)
-
 shl-w : tie.Need-shl-w
 shl-w c = let a = c .before .before .before .before .args in omega (arith, logs-small (a .log2-w) (a .log2-h) (sized c) .0)
 
@@ -77,8 +68,7 @@ returns-2 : tie.Need-returns-2
 returns-2 c =
     let s = c .before .before in
     let a = s .before .before .before .before .args in
-    ssd-depth (a .log2-w) (a .log2-h) (a .depth) (A (s .before .before)) (B (s .before .before)) (shifted (a .log2-w))
-    (shifted (a .log2-h)) (wide s) (high s) (sized s) (sym (c .before .bad-depth .ensures) ∙ c .if2 .taken)
+    ssd-depth (a .log2-w) (a .log2-h) (a .depth) (A (s .before .before)) (B (s .before .before)) (sized s) (sym (c .before .bad-depth .ensures) ∙ c .if2 .taken)
 
 outside-plane-requires : tie.Need-outside-plane-requires
 outside-plane-requires c κs = search needs
@@ -87,8 +77,7 @@ returns-3 : tie.Need-returns-3
 returns-3 c =
     let s = c .before .before .before .before in
     let a = s .before .before .before .before .args in
-    ssd-area (a .log2-w) (a .log2-h) (a .depth) (A (s .before .before)) (B (s .before .before)) (shifted (a .log2-w))
-    (shifted (a .log2-h)) (wide s) (high s) (sized s) (deep (c .before .before))
+    ssd-area (a .log2-w) (a .log2-h) (a .depth) (A (s .before .before)) (B (s .before .before)) (sized s) (deep (c .before .before))
     (sym (c .before .outside-plane .ensures) ∙ c .if3 .taken)
 
 outside-plane-requires-2 : tie.Need-outside-plane-requires-2
@@ -98,8 +87,7 @@ returns-4 : tie.Need-returns-4
 returns-4 c =
     let s = c .before .before .before .before .before .before in
     let a = s .before .before .before .before .args in
-    ssd-second (a .log2-w) (a .log2-h) (a .depth) (A (s .before .before)) (B (s .before .before)) (shifted (a .log2-w))
-    (shifted (a .log2-h)) (wide s) (high s) (sized s) (deep (c .before .before .before .before))
+    ssd-second (a .log2-w) (a .log2-h) (a .depth) (A (s .before .before)) (B (s .before .before)) (sized s) (deep (c .before .before .before .before))
     (one (c .before .before)) (sym (c .before .outside-plane2 .ensures) ∙ c .if4 .taken)
 
 -- both blocks lie inside their buffers
@@ -112,18 +100,9 @@ blocks :
 blocks c =
     let s = c .before .before .before .before .before .before in
     let a = s .before .before .before .before .args in
-    let k = logs-small (a .log2-w) (a .log2-h) (sized s) in
-    let w = shifted (a .log2-w) in
-    let h = shifted (a .log2-h) in
-    record {
-      narrow = side-small (a .log2-w) w (wide s) (k .0) .1;
-      low = side-small (a .log2-h) h (high s) (k .1) .1;
-      one =
-          rows-inside (length (a .org .now)) (a .width) (a .height) (a .stride) (a .x) (a .y) w h
-          (side-small (a .log2-h) h (high s) (k .1) .0)
-          (is-inside (length (a .org .now)) (a .width) (a .height) (a .stride) (a .x) (a .y) w h (one (c .before .before)));
-      two = omega (arith, is-inside (length (a .cur .now)) w h w 0 0 w h (two c) .formed .long);
-    }
+    let k = shifted-sides (a .log2-w) (a .log2-h) (sized s) in
+    planes-hold (length (a .org .now)) (a .width) (a .height) (a .stride) (a .x) (a .y) (length (a .cur .now)) (shifted (a .log2-w)) (shifted (a .log2-h)) (k .0) (k .1)
+    (one (c .before .before)) (two c)
 
 mul-ssd-block : tie.Need-mul-ssd-block
 mul-ssd-block c = omega (arith, blocks c .one)
@@ -139,17 +118,15 @@ end-requires c κs = (outside-no 8 14 _ (deep (c .before .before .before .before
 
 returns-5 : tie.Need-returns-5
 returns-5 c =
-    let s = c .before .before .before .before .before .before .before .before in
+    let e = c .before .before in
+    let s = e .before .before .before .before .before .before in
     let a = s .before .before .before .before .args in
     let w = shifted (a .log2-w) in
     let h = shifted (a .log2-h) in
     let p = plane-alike (a .org .now) (a .width) (a .height) (a .stride) (a .x) (a .y) w h (a .depth) (a .y * a .stride + a .x) refl in
     let q = plane-alike (a .cur .now) w h w 0 0 w h (a .depth) 0 (omega arith) in
-    c .end .ensures
-    ∙ ssd-totalled w h (a .depth) (cell 0 (a .org .now) (a .y * a .stride + a .x) (a .stride)) (cell 0 (a .cur .now) 0 w) (c .before .ssd-block .ensures)
-    ∙ rest-alike p q _ _ (ap pos (ssd-alike p q (2 * (a .depth - 8))))
-    ∙ ssd-rest (a .log2-w) (a .log2-h) (a .depth) (A (s .before .before)) (B (s .before .before)) w h (wide s)
-    (high s) (sized s) (deep (c .before .before .before .before .before .before)) (one (c .before .before .before .before)) (two (c .before .before))
+    ssd-alike p q (a .depth) (c .end .ensures ∙ ssd-totalled w h (a .depth) _ _ (c .before .ssd-block .ensures))
+    ∙ ssd-rest (a .log2-w) (a .log2-h) (a .depth) (A (s .before .before)) (B (s .before .before)) (sized s) (deep (e .before .before .before .before)) (one (e .before .before)) (two e)
 
 pub evce-ssd-16b-spec : {M : Type 1} → statement M
 evce-ssd-16b-spec =

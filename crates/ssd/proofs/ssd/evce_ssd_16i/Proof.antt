@@ -1,24 +1,20 @@
 -- `ssd::ssd::evce_ssd_16i` meets its contract: each refusal is the first broken test, and what is left is read alike. Assumes nothing.
-use mathlib.Core.Path.{_≡_, sym, ap, _∙_}
+use mathlib.Core.Path.{_≡_, sym, _∙_}
 use mathlib.Core.Bool.{false, _||_}
-use Prim.Native.Nat.{ℕ, _*_, _-_, _^_}
+use Prim.Native.Nat.{ℕ}
 use native.Mathlib.Omega.{arith}
 use borrow.Author.Needs.{needs}
 use lib.Dec.{ltb}
-use lib.Bits.{bitOr}
-use lib.IntN.{pos}
 use lib.ListN.{length}
+use mir.Facts.{toZ-ofZ}
 use Rattle.evc.specs.Tests.{outside}
 use Rattle.evc.specs.Planes.{Block, atEdges, planeOf}
 use Rattle.evc.proofs.Tests.{outside-no}
 use Rattle.plane_tests.specs.Areas.{outsideEdges}
-use Rattle.plane_tests.proofs.Replies.{rest-alike}
-use Rattle.plane_tests.proofs.SmallSides.{logs-small, side-small, shifted, shifted-is}
-use Rattle.block_rows.specs.Totals.{BlocksTotalled}
-use Rattle.block_rows.specs.Edges.{edgeCell, EdgesIn}
-use Rattle.block_rows.proofs.AtEdges.{edges-in, edges-alike, as-bits, of-bits}
+use Rattle.plane_tests.proofs.SmallSides.{logs-small, shifted, shifted-sides}
+use Rattle.block_rows.specs.Edges.{EdgesIn}
+use Rattle.block_rows.proofs.AtEdges.{edges-in, edges-alike}
 use Rattle.ssd.proofs.Ends.{ssd-alike, ssd-totalled}
-use Rattle.ssd.specs.Squares.{squaredLow}
 use Rattle.ssd.proofs.Logs.{ssd-size, ssd-depth, ssd-area, ssd-second, ssd-rest}
 use Rattle.ssd.proofs.ssd.evce_ssd_16i.Statement.{statement}
 use Rattle.ssd.proofs.ssd.evce_ssd_16i.Tie as tie
@@ -38,45 +34,23 @@ deep : (c : tie.Else2) → outside 8 14 (c .before .before .before .before .befo
 deep c = sym (c .before .bad-depth .ensures) ∙ c .if2 .left
 
 -- the positions come as their bits
-far1 :
-    (c : tie.After-outside-edges) →
-    let s = c .before .before .before in
-    let a = s .before .before .before .before .args in
-    c .outside-edges .result
-    ≡ outsideEdges (length (a .one .now)) (a .width1) (a .height1) (a .stride1) (a .x) (a .y) (shifted (a .log2-w)) (shifted (a .log2-h))
-far1 c =
-    let s = c .before .before .before in
-    let t = s .before .before .before .before in
-    let a = t .args in
-    of-bits (λ x y. c .outside-edges .result ≡ outsideEdges (length (a .one .now)) (a .width1) (a .height1) (a .stride1) x y (shifted (a .log2-w)) (shifted (a .log2-h)))
-    (t .fits .x) (t .fits .y) (c .outside-edges .ensures)
-
-far2 :
-    (c : tie.After-outside-edges2) →
-    let s = c .before .before .before .before .before in
-    let a = s .before .before .before .before .args in
-    c .outside-edges2 .result
-    ≡ outsideEdges (length (a .two .now)) (a .width2) (a .height2) (a .stride2) (a .x) (a .y) (shifted (a .log2-w)) (shifted (a .log2-h))
-far2 c =
-    let s = c .before .before .before .before .before in
-    let t = s .before .before .before .before in
-    let a = t .args in
-    of-bits (λ x y. c .outside-edges2 .result ≡ outsideEdges (length (a .two .now)) (a .width2) (a .height2) (a .stride2) x y (shifted (a .log2-w)) (shifted (a .log2-h)))
-    (t .fits .x) (t .fits .y) (c .outside-edges2 .ensures)
-
 one :
     (c : tie.Else3) →
     let s = c .before .before .before .before in
     let a = s .before .before .before .before .args in
     outsideEdges (length (a .one .now)) (a .width1) (a .height1) (a .stride1) (a .x) (a .y) (shifted (a .log2-w)) (shifted (a .log2-h)) ≡ false
-one c = sym (far1 (c .before)) ∙ c .if3 .left
+one c =
+    let f = c .before .before .before .before .before .before .before .before .fits in
+    rw (toZ-ofZ (f .x), toZ-ofZ (f .y)) at (sym (c .before .outside-edges .ensures) ∙ c .if3 .left)
 
 two :
     (c : tie.Else4) →
     let s = c .before .before .before .before .before .before in
     let a = s .before .before .before .before .args in
     outsideEdges (length (a .two .now)) (a .width2) (a .height2) (a .stride2) (a .x) (a .y) (shifted (a .log2-w)) (shifted (a .log2-h)) ≡ false
-two c = sym (far2 (c .before)) ∙ c .if4 .left
+two c =
+    let f = c .before .before .before .before .before .before .before .before .before .before .fits in
+    rw (toZ-ofZ (f .x), toZ-ofZ (f .y)) at (sym (c .before .outside-edges2 .ensures) ∙ c .if4 .left)
 
 bad-logs-requires : tie.Need-bad-logs-requires
 bad-logs-requires c κs = search needs
@@ -85,13 +59,6 @@ returns : tie.Need-returns
 returns c =
     let a = c .before .before .before .before .args in
     ssd-size (a .log2-w) (a .log2-h) (a .depth) (A (c .before .before)) (B (c .before .before)) (sym (c .before .bad-logs .ensures) ∙ c .if1 .taken)
-
--- the sides
-wide : (c : tie.Else1) → let a = c .before .before .before .before .args in shifted (a .log2-w) ≡ 2 ^ a .log2-w
-wide c = let a = c .before .before .before .before .args in shifted-is (a .log2-w) (logs-small (a .log2-w) (a .log2-h) (sized c) .0)
-
-high : (c : tie.Else1) → let a = c .before .before .before .before .args in shifted (a .log2-h) ≡ 2 ^ a .log2-h
-high c = let a = c .before .before .before .before .args in shifted-is (a .log2-h) (logs-small (a .log2-w) (a .log2-h) (sized c) .1)
 
 shl-w : tie.Need-shl-w
 shl-w c = let a = c .before .before .before .before .args in omega (arith, logs-small (a .log2-w) (a .log2-h) (sized c) .0)
@@ -106,8 +73,7 @@ returns-2 : tie.Need-returns-2
 returns-2 c =
     let s = c .before .before in
     let a = s .before .before .before .before .args in
-    ssd-depth (a .log2-w) (a .log2-h) (a .depth) (A (s .before .before)) (B (s .before .before)) (shifted (a .log2-w))
-    (shifted (a .log2-h)) (wide s) (high s) (sized s) (sym (c .before .bad-depth .ensures) ∙ c .if2 .taken)
+    ssd-depth (a .log2-w) (a .log2-h) (a .depth) (A (s .before .before)) (B (s .before .before)) (sized s) (sym (c .before .bad-depth .ensures) ∙ c .if2 .taken)
 
 outside-edges-requires : tie.Need-outside-edges-requires
 outside-edges-requires c κs = search needs
@@ -115,10 +81,10 @@ outside-edges-requires c κs = search needs
 returns-3 : tie.Need-returns-3
 returns-3 c =
     let s = c .before .before .before .before in
-    let a = s .before .before .before .before .args in
-    ssd-area (a .log2-w) (a .log2-h) (a .depth) (A (s .before .before)) (B (s .before .before)) (shifted (a .log2-w))
-    (shifted (a .log2-h)) (wide s) (high s) (sized s) (deep (c .before .before))
-    (sym (far1 (c .before)) ∙ c .if3 .taken)
+    let t = s .before .before .before .before in
+    let a = t .args in
+    ssd-area (a .log2-w) (a .log2-h) (a .depth) (A (s .before .before)) (B (s .before .before)) (sized s) (deep (c .before .before))
+    (rw (toZ-ofZ (t .fits .x), toZ-ofZ (t .fits .y)) at (sym (c .before .outside-edges .ensures) ∙ c .if3 .taken))
 
 outside-edges-requires-2 : tie.Need-outside-edges-requires-2
 outside-edges-requires-2 c κs = search needs
@@ -126,10 +92,10 @@ outside-edges-requires-2 c κs = search needs
 returns-4 : tie.Need-returns-4
 returns-4 c =
     let s = c .before .before .before .before .before .before in
-    let a = s .before .before .before .before .args in
-    ssd-second (a .log2-w) (a .log2-h) (a .depth) (A (s .before .before)) (B (s .before .before)) (shifted (a .log2-w))
-    (shifted (a .log2-h)) (wide s) (high s) (sized s) (deep (c .before .before .before .before))
-    (one (c .before .before)) (sym (far2 (c .before)) ∙ c .if4 .taken)
+    let t = s .before .before .before .before in
+    let a = t .args in
+    ssd-second (a .log2-w) (a .log2-h) (a .depth) (A (s .before .before)) (B (s .before .before)) (sized s) (deep (c .before .before .before .before))
+    (one (c .before .before)) (rw (toZ-ofZ (t .fits .x), toZ-ofZ (t .fits .y)) at (sym (c .before .outside-edges2 .ensures) ∙ c .if4 .taken))
 
 -- both blocks read inside their planes
 ready :
@@ -142,59 +108,33 @@ ready :
 ready c =
     let s = c .before .before .before .before .before .before in
     let a = s .before .before .before .before .args in
-    let k = logs-small (a .log2-w) (a .log2-h) (sized s) in
     let w = shifted (a .log2-w) in
     let h = shifted (a .log2-h) in
-    let u = side-small (a .log2-w) w (wide s) (k .0) in
-    let v = side-small (a .log2-h) h (high s) (k .1) in (
-      edges-in (length (a .one .now)) (a .width1) (a .height1) (a .stride1) (a .x) (a .y) w h u v (one (c .before .before)),
-      edges-in (length (a .two .now)) (a .width2) (a .height2) (a .stride2) (a .x) (a .y) w h u v (two c),
+    let k = shifted-sides (a .log2-w) (a .log2-h) (sized s) in (
+      edges-in (length (a .one .now)) (a .width1) (a .height1) (a .stride1) (a .x) (a .y) w h (k .0) (k .1) (one (c .before .before)),
+      edges-in (length (a .two .now)) (a .width2) (a .height2) (a .stride2) (a .x) (a .y) w h (k .0) (k .1) (two c),
     )
 
 total-requires : tie.Need-total-requires
 total-requires c κs =
     let t = c .before .before .before .before .before .before .before .before .before .before in
-    let a = t .args in
-    let w = shifted (a .log2-w) in
-    let h = shifted (a .log2-h) in (
-      as-bits (λ x y. EdgesIn (length (a .one .now)) (a .stride1) x y w h) (t .fits .x) (t .fits .y) (ready c .0),
-      (
-        as-bits (λ x y. EdgesIn (length (a .two .now)) (a .stride2) x y w h) (t .fits .x) (t .fits .y) (ready c .1),
-        outside-no 8 14 (a .depth) (deep (c .before .before .before .before)),
-      ),
-    )
-
--- what was told, of the positions themselves
-told :
-    (c : tie.After-total) →
-    let a = c .before .before .before .before .before .before .before .before .before .before .before .args in
-    BlocksTotalled (64 * (64 * 65535)) (squaredLow (a .depth)) bitOr (shifted (a .log2-w)) (shifted (a .log2-h)) (edgeCell (a .one .now) (a .stride1) (a .x) (a .y))
-    (edgeCell (a .two .now) (a .stride2) (a .x) (a .y)) (c .total .result .sum) (c .total .result .any)
-told c =
-    let t = c .before .before .before .before .before .before .before .before .before .before .before in
-    let a = t .args in
-    of-bits
-    (λ x y.
-    BlocksTotalled (64 * (64 * 65535)) (squaredLow (a .depth)) bitOr (shifted (a .log2-w)) (shifted (a .log2-h)) (edgeCell (a .one .now) (a .stride1) x y)
-    (edgeCell (a .two .now) (a .stride2) x y) (c .total .result .sum) (c .total .result .any))
-    (t .fits .x) (t .fits .y) (c .total .ensures)
+    rw (toZ-ofZ (t .fits .x), toZ-ofZ (t .fits .y)) (ready c .0, (ready c .1, outside-no 8 14 (t .args .depth) (deep (c .before .before .before .before))))
 
 end-requires : tie.Need-end-requires
 end-requires c κs = (outside-no 8 14 _ (deep (c .before .before .before .before .before)) .1, omega (arith, c .total .ensures .most))
 
 returns-5 : tie.Need-returns-5
 returns-5 c =
-    let s = c .before .before .before .before .before .before .before .before in
-    let a = s .before .before .before .before .args in
+    let e = c .before .before in
+    let s = e .before .before .before .before .before .before in
+    let t = s .before .before .before .before in
+    let a = t .args in
     let w = shifted (a .log2-w) in
     let h = shifted (a .log2-h) in
     let p = edges-alike (a .one .now) (a .width1) (a .height1) (a .stride1) (a .x) (a .y) w h (a .depth) in
     let q = edges-alike (a .two .now) (a .width2) (a .height2) (a .stride2) (a .x) (a .y) w h (a .depth) in
-    c .end .ensures
-    ∙ ssd-totalled w h (a .depth) (edgeCell (a .one .now) (a .stride1) (a .x) (a .y)) (edgeCell (a .two .now) (a .stride2) (a .x) (a .y)) (told (c .before))
-    ∙ rest-alike p q _ _ (ap pos (ssd-alike p q (2 * (a .depth - 8))))
-    ∙ ssd-rest (a .log2-w) (a .log2-h) (a .depth) (A (s .before .before)) (B (s .before .before)) w h (wide s)
-    (high s) (sized s) (deep (c .before .before .before .before .before .before)) (one (c .before .before .before .before)) (two (c .before .before))
+    ssd-alike p q (a .depth) (c .end .ensures ∙ ssd-totalled w h (a .depth) _ _ (rw (toZ-ofZ (t .fits .x), toZ-ofZ (t .fits .y)) at (c .before .total .ensures)))
+    ∙ ssd-rest (a .log2-w) (a .log2-h) (a .depth) (A (s .before .before)) (B (s .before .before)) (sized s) (deep (e .before .before .before .before)) (one (e .before .before)) (two e)
 
 pub evce-ssd-16i-spec : {M : Type 1} → statement M
 evce-ssd-16i-spec =
