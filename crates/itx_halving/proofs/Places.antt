@@ -22,7 +22,14 @@ module _ {d₀ : List ℤ} {a : ℕ} {g : ℕ → ℤ} where
   next-count {d} n m e p = subst (λ (n : ℕ). Next d₀ d a n g) e p
 
   -- a run more
-  pub next-join : {d d′ : List ℤ} {h : ℕ → ℤ} (n m b c : ℕ) → Next d₀ d a n g → b ≡ a + n → Next d d′ b m h → ((k : ℕ) → k < m → h k ≡ g (n + k)) → c ≡ n + m → Next d₀ d′ a c g
+  next-join :
+      {d d′ : List ℤ} {h : ℕ → ℤ} (n m b c : ℕ) →
+      Next d₀ d a n g →
+      b ≡ a + n →
+      Next d d′ b m h →
+      ((k : ℕ) → k < m → h k ≡ g (n + k)) →
+      c ≡ n + m →
+      Next d₀ d′ a c g
   next-join {d} {d′} {h} n m b c p e q s t = record {
     long = q .long ∙ p .long;
     after =
@@ -35,56 +42,77 @@ module _ {d₀ : List ℤ} {a : ℕ} {g : ℕ → ℤ} where
       here : (k : ℕ) → a + (n + k) ≡ b + k
       here k = omega arith
 
--- runs from the start on, as the list that they leave
-pub next-end : {d₀ d : List ℤ} (G : ℕ → ℤ) (m n : ℕ) → Next d₀ d 0 m G → m ≡ n → n ≤ length d₀ → d ≡ written n G d₀
-next-end {d₀} {d} G m n p e h = written-count (0 + m) n G d₀ d (omega arith) (p .after G d₀ (omega arith) (written-none G d₀) (λ k z. ap G (omega arith)))
+-- ---- the 16 lines of a block from line j0 on, f of each lane and place: the lines of j lanes are stored, and the output has room for all
+pub record Lanes (f : ℕ → ℕ → ℤ) (N j0 : ℕ) (d₀ d : List ℤ) (j : ℕ) : Type 0 where
+  pub some : 0 < N
+  pub room : j0 * N + 16 * N ≤ length d₀
+  pub most : j ≤ 16
+  pub stored : Next d₀ d (j0 * N) (j * N) (λ i. f (i / N) (i % N))
 
--- ---- the line of lane j, among the 16 lines of a block from line j0 on
-module _ (j0 j N : ℕ) where
-  pub line-start : (j0 + j) * N ≡ j0 * N + j * N
-  line-start = omega arith
+pub lanes-none : {f : ℕ → ℕ → ℤ} {N j0 : ℕ} {d₀ : List ℤ} → 0 < N → j0 * N + 16 * N ≤ length d₀ → Lanes f N j0 d₀ d₀ 0
+lanes-none {N = N} s r = record { some = s; room = r; most = omega arith; stored = rw (zero-mul N) next-none }
 
-  -- it lies within the block's output
-  pub line-room : (H : ℕ) → j < 16 → j0 * N + 16 * N ≤ H → (j0 + j) * N + N ≤ H
-  line-room H h r = omega (arith, suc-mul j N, mul-le-mul-right {m = suc j} {n = 16} N h)
+module _ {f : ℕ → ℕ → ℤ} {N j0 : ℕ} {d₀ d : List ℤ} {j : ℕ} (p : Lanes f N j0 d₀ d j) where
+  -- the next line lies within the output, and its number is no larger
+  pub lanes-room : j < 16 → (j0 + j) * N + N ≤ length d
+  lanes-room h = omega (arith, p .room, p .stored .long, suc-mul j N, mul-le-mul-right {m = suc j} {n = 16} N h)
 
-  -- and its number is no larger than the output
-  pub line-word : (H : ℕ) → 0 < N → j < 16 → j0 * N + 16 * N ≤ H → j0 + j < H
-  line-word H s h r = omega (arith, add-mul j0 16 N, mul-le-mul-left {m = 1} {n = N} (j0 + 16) s)
+  pub lanes-word : j < 16 → j0 + j < length d
+  lanes-word h = omega (arith, p .room, p .stored .long, add-mul j0 16 N, mul-le-mul-left {m = 1} {n = N} (j0 + 16) (p .some))
 
-pub no-line : (N : ℕ) {d : List ℤ} {a : ℕ} {g : ℕ → ℤ} → Next d d a (0 * N) g
-no-line N = rw (zero-mul N) next-none
+  -- place k of lane j is place j·N + k of the block
+  pub lanes-more : {d′ : List ℤ} → j < 16 → Next d d′ ((j0 + j) * N) N (f j) → Lanes f N j0 d₀ d′ (j + 1)
+  lanes-more h q =
+      record {
+        some = p .some;
+        room = p .room;
+        most = omega arith;
+        stored = next-join (j * N) N ((j0 + j) * N) ((j + 1) * N) (p .stored) (omega arith) q (λ k l. sym (grid-at f j k N l)) (omega arith);
+      }
 
-pub line-end : (j N : ℕ) → (j + 1) * N ≡ j * N + N
-line-end j N = omega arith
-
--- place k of lane j is place j·N + k of the block
-pub lane-place : (f : ℕ → ℕ → ℤ) (j k N : ℕ) → k < N → f j k ≡ f ((j * N + k) / N) ((j * N + k) % N)
-lane-place f j k N h = sym (grid-at f j k N h)
+  pub lanes-all : 16 ≤ j → Next d₀ d (j0 * N) (16 * N) (λ i. f (i / N) (i % N))
+  lanes-all h = let e : j ≡ 16 = omega (arith, p .most) in next-count (j * N) (16 * N) (ap (λ (x : ℕ). x * N) e) (p .stored)
 
 -- ---- the block of lines 16·i .. 16·i + 15
 pub block-word : (l i : ℕ) → i < l / 16 → i * 16 + 16 ≤ l
 block-word l i h = omega (arith, div-add-mod' l 16)
 
-module _ (N l i : ℕ) where
-  pub block-room : {src d₀ : List ℤ} (d : List ℤ) → length d ≡ length d₀ → i < l / 16 → StageRoom src d₀ N l → BlockRoom src d N l (i * 16)
-  block-room d e h r = record {
+-- of the blocks of l lines of N places i are stored, and the output has room for all
+pub record BlocksDone (G : ℕ → ℤ) (N l : ℕ) (d₀ d : List ℤ) (i : ℕ) : Type 0 where
+  pub room : N * l ≤ length d₀
+  pub whole : l % 16 ≡ 0
+  pub most : i ≤ l / 16
+  pub stored : Next d₀ d 0 (i * 16 * N) G
+
+pub blocks-none : {G : ℕ → ℤ} {N l : ℕ} {d₀ : List ℤ} → N * l ≤ length d₀ → l % 16 ≡ 0 → BlocksDone G N l d₀ d₀ 0
+blocks-none {N = N} r w = record { room = r; whole = w; most = omega arith; stored = rw (zero-mul N) next-none }
+
+module _ {G : ℕ → ℤ} {N l : ℕ} {d₀ d : List ℤ} {i : ℕ} (p : BlocksDone G N l d₀ d i) where
+  pub blocks-room : {src : List ℤ} → N * l ≤ length src → i < l / 16 → BlockRoom src d N l (i * 16)
+  blocks-room r h = record {
     among = block-word l i h;
-    src-room = r .src-room;
-    dst-room = omega (arith, e, r .dst-room, mul-comm N l, add-mul (i * 16) 16 N, mul-le-mul-right {m = i * 16 + 16} {n = l} N (block-word l i h));
+    src-room = r;
+    dst-room =
+        omega (arith, p .stored .long, p .room, mul-comm N l, add-mul (i * 16) 16 N, mul-le-mul-right {m = i * 16 + 16} {n = l} N (block-word l i h));
   }
 
-  pub block-more : (G : ℕ → ℤ) {d₀ d d′ : List ℤ} → Next d₀ d 0 (i * 16 * N) G → Blocked G d d′ N (i * 16) → Next d₀ d′ 0 ((i + 1) * 16 * N) G
-  block-more G p q =
-      next-join (i * 16 * N) (16 * N) (i * 16 * N) ((i + 1) * 16 * N) p (omega arith) q (λ k h. refl)
-      (let e : (i + 1) * 16 ≡ i * 16 + 16 = omega arith in ap (λ (x : ℕ). x * N) e ∙ add-mul (i * 16) 16 N)
+  pub blocks-more : {d′ : List ℤ} → i < l / 16 → Blocked G d d′ N (i * 16) → BlocksDone G N l d₀ d′ (i + 1)
+  blocks-more h q =
+      let e : (i + 1) * 16 ≡ i * 16 + 16 = omega arith in
+      record {
+        room = p .room;
+        whole = p .whole;
+        most = omega arith;
+        stored =
+            next-join (i * 16 * N) (16 * N) (i * 16 * N) ((i + 1) * 16 * N) (p .stored) (omega arith) q (λ k r. refl)
+            (ap (λ (x : ℕ). x * N) e ∙ add-mul (i * 16) 16 N);
+      }
 
-  pub block-all : (G : ℕ → ℤ) {d₀ d : List ℤ} → Next d₀ d 0 (i * 16 * N) G → l / 16 ≤ i → i ≤ l / 16 → l % 16 ≡ 0 → N * l ≤ length d₀ → d ≡ written (N * l) G d₀
-  block-all G {d₀} {d} p h k z r =
-      let e : i * 16 ≡ l = omega (arith, div-add-mod' l 16) in next-end G (i * 16 * N) (N * l) p (ap (λ (x : ℕ). x * N) e ∙ mul-comm l N) r
-
-pub block-none : {d : List ℤ} {G : ℕ → ℤ} (N : ℕ) → Next d d 0 (0 * 16 * N) G
-block-none N = rw (zero-mul N) next-none
+  pub blocks-all : l / 16 ≤ i → d ≡ written (N * l) G d₀
+  blocks-all h =
+      let e : i * 16 ≡ l = omega (arith, p .most, p .whole, div-add-mod' l 16) in
+      written-count (0 + i * 16 * N) (N * l) G d₀ d (omega (arith, ap (λ (x : ℕ). x * N) e, mul-comm l N))
+      (p .stored .after G d₀ (omega (arith, p .room, ap (λ (x : ℕ). x * N) e, mul-comm l N)) (written-none G d₀) (λ k r. ap G (omega arith)))
 
 -- a call of 16 lines or more is a number of whole blocks
 sixteens : T (below (λ k. eqb (2 ^ (4 + k) % 16) 0) 3)

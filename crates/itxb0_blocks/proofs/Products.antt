@@ -1,24 +1,28 @@
--- What a block's sums are in stage one, and its lines as they are stored. Assumes nothing.
+-- What a block's sums are in stage one, once they are stored. Assumes nothing.
 use mathlib.Core.Path.{_≡_, sym, ap, _∙_}
 use mathlib.Core.List.{List}
-use Prim.Native.Nat.{ℕ, _+_, _*_, _/_, _%_, _<_}
-use lib.ListN.{getD}
-use lib.IntN.{ℤ, pos, _*ℤ_}
+use Prim.Native.Nat.{ℕ, _*_, _/_, _<_}
+use lib.IntN.{ℤ}
 use Rattle.integers.specs.Z.{clip32}
-use Rattle.integers.specs.Sum.{sumZ}
+use Rattle.integers.specs.Lists.{tab}
 use Rattle.evc.specs.Table.{tm}
 use Rattle.evc.specs.Stages.{stageOneAt}
 use Rattle.itx_halving.specs.Lines.{Next}
-use Rattle.itx_halving.specs.Blocks.{input, crossed}
-use Rattle.itx_halving.proofs.Places.{next-join, line-start, line-end, lane-place}
-use Rattle.itx_halving.proofs.Products.{block-product}
+use Rattle.itx_halving.specs.Blocks.{input, crossed, Rows, Blocked}
+use Rattle.itx_halving.proofs.Lines.{next-ext}
+use Rattle.itx_halving.proofs.Products.{crossed-sum, block-product}
+use Rattle.itx_lanes.specs.Lanes.{laneSum}
 
-pub one-at : (N l j0 : ℕ) (src : List ℤ) (some : 0 < N) (i : ℕ) (z : ℤ) → z ≡ sumZ N (λ k. tm N k (i % N) *ℤ input src l j0 k (i / N)) → clip32 z ≡ stageOneAt (tm N) N l src (j0 * N + i)
-unfolding stageOneAt
-one-at N l j0 src some i z h = ap clip32 (h ∙ sym (block-product N l j0 src some i))
-
--- the line of lane j of the sums e, stored after those before it; what the sums are tells which they are
-pub line-more : {d₀ d d′ e is : List ℤ} (N j0 j : ℕ) → e ≡ is → Next d₀ d (j0 * N) (j * N) (λ i. clip32 (crossed N e i)) → Next d d′ ((j0 + j) * N) N (λ k. clip32 (getD e (k * 16 + j) (pos 0))) → Next d₀ d′ (j0 * N) ((j + 1) * N) (λ i. clip32 (crossed N e i))
-line-more {e = e} N j0 j r p q =
-    next-join (j * N) N ((j0 + j) * N) ((j + 1) * N) p (line-start j0 j N) q (λ k h. lane-place (λ j k. clip32 (getD e (k * 16 + j) (pos 0))) j k N h)
-    (line-end j N)
+-- the block s, gathered from the lines from j0 on with p places from row to row, its sums e, and what is stored of them
+pub block-stored :
+    {s e d₀ d : List ℤ} (src : List ℤ) (N p l j0 M : ℕ) →
+    p ≡ 64 / N * 16 →
+    M ≡ N * 16 →
+    0 < N →
+    Rows s p N (input src l j0) →
+    e ≡ tab M (laneSum N s) →
+    Next d₀ d (j0 * N) (16 * N) (λ i. clip32 (crossed N e i)) →
+    Blocked (stageOneAt (tm N) N l src) d₀ d N j0
+unfolding laneSum stageOneAt
+block-stored src N p l j0 M stride m some r q n =
+    next-ext n (λ i h. ap clip32 (crossed-sum N p stride r M m q some i h ∙ sym (block-product N l j0 src some i)))

@@ -1,7 +1,7 @@
 -- Stage two by the inputs' halves, cited by the contracts of src/. Document 01, "The two stages". Assumes nothing.
 use mathlib.Core.Path.{_≡_}
 use mathlib.Core.List.{List}
-use Prim.Native.Nat.{ℕ, _*_, _/_, _≤_, _<_}
+use Prim.Native.Nat.{ℕ, _+_, _*_, _/_, _≤_, _<_}
 use lib.ListN.{length, getD}
 use lib.IntN.{ℤ, pos, _+ℤ_, _-ℤ_, _*ℤ_, natAbs}
 use Rattle.integers.specs.Z.{floorPow, clip16}
@@ -19,6 +19,10 @@ rest x = x -ℤ floorPow x 16 *ℤ pos 65536 -ℤ pos 32768
 -- the tail of stage two: 65536 times a sum of upper halves, a sum of rests, and what both leave out
 unfoldable pub joined : ℕ → ℤ → ℤ → ℤ → ℤ
 joined shift h a c = clip16 (floorPow (h *ℤ pos 65536 +ℤ a +ℤ c) shift)
+
+-- of the sums h and a of a block's upper halves and rests, and of the numbers c, what the tail leaves at place k of lane j
+abbrev pub tailAt : ℕ → List ℤ → List ℤ → List ℤ → ℕ → ℕ → ℤ
+tailAt shift h a c j k = joined shift (getD h (k * 16 + j) (pos 0)) (getD a (k * 16 + j) (pos 0)) (getD c k (pos 0))
 
 -- the sums h and a of n places, and the numbers c, are what the tail of 16 lines reads
 pub record TailReads (h a c : List ℤ) (n shift : ℕ) : Type 0 where

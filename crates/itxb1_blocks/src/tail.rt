@@ -1,12 +1,11 @@
 // Stage two's tail: sums of upper halves and of rests are put together in 64 bits, rounded, shifted and clipped. Document 01, "The two stages".
 ghost use mathlib.Core.Path.{_≡_};
-ghost use Prim.Native.Nat.{_+_, _*_, _%_, _<_, _≤_};
+ghost use Prim.Native.Nat.{_+_, _*_, _/_, _%_, _<_, _≤_};
 ghost use lib.ListN.{length, getD, set};
 ghost use lib.IntN.{pos, _+ℤ_, natAbs};
 ghost use Rattle.integers.specs.Lists.{tab};
 ghost use Rattle.itx_halving.specs.Lines.{Next};
-ghost use Rattle.itx_halving.specs.Blocks.{crossed};
-ghost use Rattle.itxb1_blocks.specs.Halves.{joined, TailReads};
+ghost use Rattle.itxb1_blocks.specs.Halves.{joined, tailAt, TailReads};
 
 // The columns' share and the rounding number, by place.
 pub(crate) fn offsets(col: &[i32], c: &mut [i64], n: usize, add: i64)
@@ -39,7 +38,7 @@ fn tail_at(
     shift: u8,
 )
     requires { ⌜ TailReads (now h) (now a) (now c) n shift × ((j < 16) × ((k < n) × (at + k < length (now dst)))) ⌝ }
-    ensures { λ _. ⌜ now (dst .exit) ≡ set (now (dst .entry)) (at + k) (joined shift (getD (now (h .entry)) (k * 16 + j) (pos 0)) (getD (now (a .entry)) (k * 16 + j) (pos 0)) (getD (now (c .entry)) k (pos 0))) ⌝ }
+    ensures { λ _. ⌜ now (dst .exit) ≡ set (now (dst .entry)) (at + k) (tailAt shift (now (h .entry)) (now (a .entry)) (now (c .entry)) j k) ⌝ }
 {
     let i = k * 16 + j;
     dst[at + k] = last(h[i], a[i], c[k], shift);
@@ -57,7 +56,7 @@ fn tail_line(
     shift: u8,
 )
     requires { ⌜ TailReads (now h) (now a) (now c) n shift × ((j < 16) × (at + n ≤ length (now dst))) ⌝ }
-    ensures { λ _. ⌜ Next (now (dst .entry)) (now (dst .exit)) at n (λ k. joined shift (getD (now (h .entry)) (k * 16 + j) (pos 0)) (getD (now (a .entry)) (k * 16 + j) (pos 0)) (getD (now (c .entry)) k (pos 0))) ⌝ }
+    ensures { λ _. ⌜ Next (now (dst .entry)) (now (dst .exit)) at n (tailAt shift (now (h .entry)) (now (a .entry)) (now (c .entry)) j) ⌝ }
 {
     let m = n / 4;
     for q in 0..m {
@@ -70,7 +69,7 @@ fn tail_line(
 // All 16 lines of a block, from line j0 of the output on.
 pub(crate) fn tail(h: &[i32], a: &[i32], c: &[i64], dst: &mut [i16], n: usize, j0: usize, shift: u8)
     requires { ⌜ TailReads (now h) (now a) (now c) n shift × (j0 * n + 16 * n ≤ length (now dst)) ⌝ }
-    ensures { λ _. ⌜ Next (now (dst .entry)) (now (dst .exit)) (j0 * n) (16 * n) (λ i. joined shift (crossed n (now (h .entry)) i) (crossed n (now (a .entry)) i) (getD (now (c .entry)) (i % n) (pos 0))) ⌝ }
+    ensures { λ _. ⌜ Next (now (dst .entry)) (now (dst .exit)) (j0 * n) (16 * n) (λ i. tailAt shift (now (h .entry)) (now (a .entry)) (now (c .entry)) (i / n) (i % n)) ⌝ }
 {
     for j in 0..16 {
         tail_line(h, a, c, dst, n, (j0 + j) * n, j, shift);

@@ -1,95 +1,36 @@
--- `itxb0_blocks::stage_one::one64` meets its contract: gathered, summed, and stored line after line. Assumes nothing.
+-- `itxb0_blocks::stage_one::one64` meets its contract: gathered, summed and stored. Assumes nothing.
 use borrow.Author.Needs.{needs}
-use mathlib.Core.Path.{_≡_, refl, sym, ap, _∙_}
-use mathlib.Core.List.{List}
-use Prim.Native.Nat.{ℕ, _*_, _-_, _≤_}
+use mathlib.Core.Path.{refl, sym, ap, _∙_}
 use native.Mathlib.Omega.{arith}
 use lib.ListN.{length}
-use lib.IntN.{ℤ}
-use Rattle.integers.specs.Z.{clip32}
-use Rattle.integers.specs.Lists.{tab}
 use Rattle.integers.proofs.Written.{tab-length}
-use Rattle.itx_halving.specs.Lines.{Next}
-use Rattle.itx_halving.specs.Blocks.{crossed}
-use Rattle.itx_halving.proofs.Lines.{next-ext}
-use Rattle.itx_halving.proofs.Places.{next-count, no-line}
-use Rattle.itx_halving.proofs.Products.{crossed-sum}
-use Rattle.itx_lanes.specs.Lanes.{laneSum}
-use Rattle.itxb0_blocks.proofs.Products.{one-at, line-more}
+use Rattle.itxb0_blocks.proofs.Products.{block-stored}
 use Rattle.itxb0_blocks.proofs.stage_one.one64.Statement.{statement}
 use Rattle.itxb0_blocks.proofs.stage_one.one64.Tie as tie
 
-abbrev Inv-loop : tie.InvT-loop
-Inv-loop src dst₀ l j0 e j₀ dst j = (j ≤ 16) × Next dst₀ dst (j0 * 64) (j * 64) (λ i. clip32 (crossed 64 e i))
+gather-requires : tie.Need-gather-requires
+gather-requires c κs = let g = c .before .pre in record { long = refl; rows = refl; apart = omega arith; among = g .among; src-room = g .src-room }
 
-abbrev μ-loop : tie.MeasureT-loop
-μ-loop src dst₀ l j0 e j₀ dst j = 16 - j
-
-long : (g : ℕ → ℤ) {e : List ℤ} → e ≡ tab 1024 g → length e ≡ 1024
-long g p = ap length p ∙ tab-length 1024 g
-
-gather-requires : tie.Need-gather-requires Inv-loop μ-loop
-gather-requires c κs = let s = c .before in record { long = refl; rows = refl; apart = omega arith; among = s .pre .among; src-room = s .pre .src-room }
-
-sums64-requires : tie.Need-sums64-requires Inv-loop μ-loop
+sums64-requires : tie.Need-sums64-requires
 sums64-requires c κs = search needs
 
-loop-holds : tie.Need-loop-holds Inv-loop μ-loop
-loop-holds c = (omega arith, no-line 64)
+slice-aggregate-store-lines : tie.Need-slice-aggregate-store-lines
+slice-aggregate-store-lines c = sym (ap length (c .before .sums64 .ensures) ∙ tab-length 1024 _)
 
-slice-aggregate-store-line : tie.Need-slice-aggregate-store-line Inv-loop μ-loop
-slice-aggregate-store-line c = sym (long _ (c .before .before .before .sums64 .ensures))
+store-lines-requires : tie.Need-store-lines-requires
+store-lines-requires c κs =
+    let e = c .before .before in
+    ((omega arith, omega (arith, ap length (e .sums64 .ensures) ∙ tab-length 1024 _)), e .before .before .before .before .before .pre .dst-room)
 
-add-store-line : tie.Need-add-store-line Inv-loop μ-loop
-add-store-line c = omega (arith, c .before .before .before .before .before .before .before .before .before .pre .dst-room, c .before .before .loop-test .taken)
+same-length : tie.Need-same-length
+same-length c = search needs
 
-mul-store-line : tie.Need-mul-store-line Inv-loop μ-loop
-mul-store-line c = omega (arith, c .before .before .before .before .before .before .before .before .before .pre .dst-room, c .before .before .loop-test .taken)
-
-store-line-requires : tie.Need-store-line-requires Inv-loop μ-loop
-store-line-requires c κs =
-    let t = c .before .before .loop-test .taken in
-    ((omega arith, omega (arith, long _ (c .before .before .before .before .sums64 .ensures))), (t, omega (arith, c .before .before .before .loop .inv .1 .long, t, c .before .before .before .before .before .before .before .before .before .pre .dst-room)))
-
-add-j : tie.Need-add-j Inv-loop μ-loop
-add-j c = omega (arith, c .before .before .before .before .loop-test .taken)
-
-loop-less : tie.Need-loop-less Inv-loop μ-loop
-loop-less c = omega (arith, c .before .before .before .before .loop-test .taken)
-
-loop-again : tie.Need-loop-again Inv-loop μ-loop
-loop-again c =
-    let j0 = c .before .before .before .before .before .before .before .before .before .before .before .args .j0 in
-    let l = c .before .before .before .before .before .loop in (
-      omega (arith, c .before .before .before .before .loop-test .taken),
-      line-more 64 j0 (l .j) (c .before .before .before .before .before .before .sums64 .ensures) (l .inv .1) (c .before .store-line .ensures),
-    )
-
-same-length : tie.Need-same-length Inv-loop μ-loop
-same-length c = c .before .loop .inv .1 .long
-
-returns : tie.Need-returns Inv-loop μ-loop
-unfolding laneSum
+returns : tie.Need-returns
 returns c =
-    let s = c .before .before .before .before .before .before .before in
-    next-ext (next-count _ (16 * 64) (omega (arith, c .before .loop .inv .0, c .loop-test .left)) (c .before .loop .inv .1))
-    (λ i h. one-at 64 (s .args .l) (s .args .j0) (s .args .src .now) (omega arith) i _ (crossed-sum 64 16 refl (c .before .before .before .before .before .gather .ensures) 1024 refl (c .before .before .sums64 .ensures) (omega arith) i h))
+    let e = c .before .before .before .before in
+    let g = e .before .before .before in
+    let a = g .before .before .args in
+    block-stored (a .src .now) 64 16 (a .l) (a .j0) 1024 refl refl (omega arith) (g .gather .ensures) (e .sums64 .ensures) (c .before .store-lines .ensures)
 
 pub one64-spec : {M : Type 1} → statement M
-one64-spec =
-    tie.close
-    (tie.spec
-    Inv-loop
-    μ-loop
-    gather-requires
-    sums64-requires
-    loop-holds
-    slice-aggregate-store-line
-    add-store-line
-    mul-store-line
-    store-line-requires
-    add-j
-    loop-less
-    loop-again
-    same-length
-    returns)
+one64-spec = tie.close (tie.spec gather-requires sums64-requires slice-aggregate-store-lines store-lines-requires same-length returns)

@@ -2,25 +2,24 @@
 use mathlib.Core.Path.{_≡_, sym, subst}
 use mathlib.Core.Logic.{⊎-elim}
 use mathlib.Core.List.{List}
-use Prim.Native.Nat.{ℕ, _*_, _-_, _^_, _≤_}
+use Prim.Native.Nat.{ℕ, _*_, _-_, _^_}
 use native.Mathlib.Omega.{arith}
 use lib.IntN.{ℤ}
 use Rattle.evc.specs.Table.{tm}
 use Rattle.evc.specs.Stages.{stageOneAt}
-use Rattle.itx_halving.specs.Lines.{Next}
 use Rattle.itx_halving.specs.Blocks.{BlockRoom, Blocked}
-use Rattle.itx_halving.proofs.Places.{block-none, block-word, block-room, block-more, block-all}
+use Rattle.itx_halving.proofs.Places.{block-word, BlocksDone, blocks-none, blocks-room, blocks-more, blocks-all}
 use Rattle.itxb0_blocks.proofs.stage_one.ones.Statement.{statement}
 use Rattle.itxb0_blocks.proofs.stage_one.ones.Tie as tie
 
 abbrev Inv-loop : tie.InvT-loop
-Inv-loop src dst₀ log l b i₀ dst i = (i ≤ b) × Next dst₀ dst 0 (i * 16 * 2 ^ log) (stageOneAt (tm (2 ^ log)) (2 ^ log) l src)
+Inv-loop src dst₀ log l b i₀ dst i = BlocksDone (stageOneAt (tm (2 ^ log)) (2 ^ log) l src) (2 ^ log) l dst₀ dst i
 
 abbrev μ-loop : tie.MeasureT-loop
 μ-loop src dst₀ log l b i₀ dst i = b - i
 
 loop-holds : tie.Need-loop-holds Inv-loop μ-loop
-loop-holds c = (omega arith, block-none (2 ^ c .args .log))
+loop-holds c = blocks-none (c .pre .1 .0 .dst-room) (c .pre .1 .1)
 
 -- the log says which size a block has: what is asked of it, and what it leaves
 module _ (c : tie.In-loop Inv-loop μ-loop) where
@@ -33,9 +32,14 @@ module _ (c : tie.In-loop Inv-loop μ-loop) where
   room : (k : ℕ) → s .args .log ≡ k → BlockRoom (s .args .src .now) (c .before .loop .dst) (2 ^ k) (s .args .l) (c .before .loop .i * 16)
   room k e =
       subst (λ (g : ℕ). BlockRoom (s .args .src .now) (c .before .loop .dst) (2 ^ g) (s .args .l) (c .before .loop .i * 16)) e
-      (block-room (2 ^ s .args .log) (s .args .l) (c .before .loop .i) (c .before .loop .dst) (c .before .loop .inv .1 .long) (c .loop-test .taken) (s .pre .1 .0))
+      (blocks-room (c .before .loop .inv) (s .pre .1 .0 .src-room) (c .loop-test .taken))
 
-  arm : (k : ℕ) {d d′ : List ℤ} → s .args .log ≡ k → Blocked (sums k) (c .before .loop .dst) d (2 ^ k) (c .before .loop .i * 16) → d′ ≡ d → Blocked (sums (s .args .log)) (c .before .loop .dst) d′ (2 ^ s .args .log) (c .before .loop .i * 16)
+  arm :
+      (k : ℕ) {d d′ : List ℤ} →
+      s .args .log ≡ k →
+      Blocked (sums k) (c .before .loop .dst) d (2 ^ k) (c .before .loop .i * 16) →
+      d′ ≡ d →
+      Blocked (sums (s .args .log)) (c .before .loop .dst) d′ (2 ^ s .args .log) (c .before .loop .i * 16)
   arm k {d} {d′} e r f =
       subst (λ (g : ℕ). Blocked (sums g) (c .before .loop .dst) d′ (2 ^ g) (c .before .loop .i * 16)) (sym e)
       (subst (λ (d : List ℤ). Blocked (sums k) (c .before .loop .dst) d (2 ^ k) (c .before .loop .i * 16)) (sym f) r)
@@ -61,24 +65,18 @@ loop-less c = omega (arith, c .before .loop-test .taken)
 loop-again : tie.Need-loop-again Inv-loop μ-loop
 loop-again c =
     let d = c .before in
-    let l = d .before .loop in
-    let p = s d .pre .0 in (
-      omega (arith, d .loop-test .taken),
-      block-more (2 ^ s d .args .log) (s d .args .l) (l .i) (sums d (s d .args .log)) (l .inv .1)
-          (⊎-elim (λ w. arm d 4 (w .0 .keys1) (w .2 .ensures) (w .4))
-          (⊎-elim (λ w. arm d 5 (w .0 .keys2) (w .2 .ensures) (w .4))
-          (λ w. arm d 6 (omega (arith, p .0, p .1)) (w .2 .ensures) (w .4)))
-          (c .match .came)),
-    )
+    let p = s d .pre .0 in
+    blocks-more (d .before .loop .inv) (d .loop-test .taken)
+    (⊎-elim (λ w. arm d 4 (w .0 .keys1) (w .2 .ensures) (w .4))
+    (⊎-elim (λ w. arm d 5 (w .0 .keys2) (w .2 .ensures) (w .4))
+    (λ w. arm d 6 (omega (arith, p .0, p .1)) (w .2 .ensures) (w .4)))
+    (c .match .came))
 
 same-length : tie.Need-same-length Inv-loop μ-loop
-same-length c = c .before .loop .inv .1 .long
+same-length c = c .before .loop .inv .stored .long
 
 returns : tie.Need-returns Inv-loop μ-loop
-returns c =
-    let s = c .before .before in
-    let l = c .before .loop in
-    block-all (2 ^ s .args .log) (s .args .l) (l .i) (stageOneAt (tm (2 ^ s .args .log)) (2 ^ s .args .log) (s .args .l) (s .args .src .now)) (l .inv .1) (omega arith) (l .inv .0) (s .pre .1 .1) (s .pre .1 .0 .dst-room)
+returns c = blocks-all (c .before .loop .inv) (c .loop-test .left)
 
 pub ones-spec : {M : Type 1} → statement M
 ones-spec =

@@ -1,54 +1,46 @@
 -- `itxb1_blocks::stage_two::two32` meets its contract: halves gathered, summed, put together. Assumes nothing.
 use borrow.Author.Needs.{needs}
-use mathlib.Core.Path.{_≡_, refl, sym, ap, _∙_}
-use mathlib.Core.List.{List}
-use Prim.Native.Nat.{ℕ, _%_}
+use mathlib.Core.Path.{refl, sym, ap, _∙_}
 use native.Mathlib.Omega.{arith}
-use native.Mathlib.Nat.{mod-lt}
 use lib.ListN.{length}
-use lib.IntN.{ℤ}
-use Rattle.integers.specs.Lists.{tab}
 use Rattle.integers.proofs.Written.{tab-length}
-use Rattle.itx_halving.proofs.Lines.{next-ext}
-use Rattle.itx_halving.proofs.Products.{crossed-sum}
-use Rattle.itx_lanes.specs.Lanes.{laneSum}
-use Rattle.itxb1_blocks.proofs.Products.{two-at, offset-at, offset-long, offset-small}
+use Rattle.itxb1_blocks.proofs.Products.{tail-reads, block-joined}
 use Rattle.itxb1_blocks.proofs.stage_two.two32.Statement.{statement}
 use Rattle.itxb1_blocks.proofs.stage_two.two32.Tie as tie
 
-long : (g : ℕ → ℤ) {e : List ℤ} → e ≡ tab 512 g → length e ≡ 512
-long g p = ap length p ∙ tab-length 512 g
+-- the rests and the upper halves, gathered and summed, as the tail sees them
+abbrev rests : tie.After-tail-arg → tie.After-lows
+rests c = c .before .before .before .before .before .before
+
+abbrev uppers : tie.After-tail-arg → tie.After-highs
+uppers c = rests c .before .before .before .before .before
 
 highs-requires : tie.Need-highs-requires
-highs-requires c κs = let s = c .before in record { long = refl; rows = refl; apart = omega arith; among = s .pre .1 .among; src-room = s .pre .1 .src-room }
+highs-requires c κs = let g = c .before .pre .1 in record { long = refl; rows = refl; apart = omega arith; among = g .among; src-room = g .src-room }
 
 sums32-requires : tie.Need-sums32-requires
 sums32-requires c κs = search needs
 
 lows-requires : tie.Need-lows-requires
-lows-requires c κs = let s = c .before .before .before .before .before .before in record { long = c .before .before .before .before .highs .ensures .long; rows = refl; apart = omega arith; among = s .pre .1 .among; src-room = s .pre .1 .src-room }
+lows-requires c κs =
+    let u = c .before .before .before .before in
+    let g = u .before .before .pre .1 in
+    record { long = u .highs .ensures .long; rows = refl; apart = omega arith; among = g .among; src-room = g .src-room }
 
 sums32-requires-2 : tie.Need-sums32-requires-2
 sums32-requires-2 c κs = search needs
 
 slice-aggregate-tail : tie.Need-slice-aggregate-tail
-slice-aggregate-tail c = sym (long _ (c .before .before .before .before .before .before .sums32 .ensures))
+slice-aggregate-tail c = sym (ap length (c .before .before .before .before .before .before .sums32 .ensures) ∙ tab-length 512 _)
 
 slice-aggregate-tail-2 : tie.Need-slice-aggregate-tail-2
-slice-aggregate-tail-2 c = sym (long _ (c .before .before .sums322 .ensures))
+slice-aggregate-tail-2 c = sym (ap length (c .before .before .sums322 .ensures) ∙ tab-length 512 _)
 
 tail-requires : tie.Need-tail-requires
 tail-requires c κs =
-    let s = c .before .before .before .before .before .before .before .before .before .before .before .before .before in (
-      record {
-        h-room = omega (arith, long _ (c .before .before .before .before .before .before .before .before .sums32 .ensures));
-        a-room = omega (arith, long _ (c .before .before .before .sums322 .ensures));
-        c-room = omega (arith, offset-long (s .pre .0));
-        small = offset-small (s .pre .0) (omega arith);
-        most = s .pre .0 .most;
-        fours = refl;
-        some = omega arith;
-      },
+    let s = uppers c .before .before in (
+      tail-reads (s .pre .0) (ap length (rests c .before .before .sums32 .ensures) ∙ tab-length 512 _)
+          (ap length (c .before .before .before .sums322 .ensures) ∙ tab-length 512 _) (omega arith) refl (omega arith),
       s .pre .1 .dst-room,
     )
 
@@ -56,15 +48,11 @@ same-length : tie.Need-same-length
 same-length c = search needs
 
 returns : tie.Need-returns
-unfolding laneSum
 returns c =
-    let s = c .before .before .before .before .before .before .before .before .before .before .before .before .before .before .before in
-    next-ext (c .before .tail .ensures)
-    (λ i h.
-    two-at 32 (s .args .l) (s .args .j0) (s .args .src .now) (omega arith) (s .args .shift) i _ _ _
-    (crossed-sum 32 32 refl (c .before .before .before .before .before .before .before .before .before .before .before .before .before .highs .ensures) 512 refl (c .before .before .before .before .before .before .before .before .before .before .sums32 .ensures) (omega arith) i h)
-    (crossed-sum 32 32 refl (c .before .before .before .before .before .before .before .before .lows .ensures) 512 refl (c .before .before .before .before .before .sums322 .ensures) (omega arith) i h)
-    (offset-at (s .pre .0) (i % 32) (mod-lt i (omega arith))))
+    let t = c .before .before in
+    let s = uppers t .before .before in
+    block-joined (s .pre .0) (s .args .src .now) 32 (s .args .l) (s .args .j0) 512 refl refl (omega arith) (uppers t .highs .ensures)
+    (rests t .before .before .sums32 .ensures) (rests t .lows .ensures) (t .before .before .before .sums322 .ensures) (c .before .tail .ensures)
 
 pub two32-spec : {M : Type 1} → statement M
 two32-spec =

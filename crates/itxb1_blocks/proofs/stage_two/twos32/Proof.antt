@@ -1,7 +1,7 @@
 -- `itxb1_blocks::stage_two::twos32` meets its contract: block after block. Assumes nothing.
 use borrow.Author.Needs.{sfits-of}
 use mathlib.Core.Path.{refl, sym, ap, _∙_}
-use Prim.Native.Nat.{_*_, _-_, _≤_}
+use Prim.Native.Nat.{_-_}
 use native.Mathlib.Omega.{arith}
 use lib.ListN.{length}
 use mir.Syntax.{w64}
@@ -10,18 +10,25 @@ use mir.Facts.{toZ-ofZ}
 use Rattle.integers.proofs.Written.{tab-length}
 use Rattle.evc.specs.Table.{tm}
 use Rattle.evc.specs.Stages.{stageTwoAt}
-use Rattle.itx_halving.specs.Lines.{Amount, Next}
+use Rattle.itx_halving.specs.Lines.{Amount}
 use Rattle.itx_halving.proofs.Lines.{rounding-within, amount}
-use Rattle.itx_halving.proofs.Places.{block-none, block-word, block-room, block-more, block-all}
+use Rattle.itx_halving.proofs.Places.{block-word, BlocksDone, blocks-none, blocks-room, blocks-more, blocks-all}
 use Rattle.itxb1_blocks.proofs.Products.{offsets-are}
 use Rattle.itxb1_blocks.proofs.stage_two.twos32.Statement.{statement}
 use Rattle.itxb1_blocks.proofs.stage_two.twos32.Tie as tie
 
 abbrev Inv-loop : tie.InvT-loop
-Inv-loop src dst₀ l shift c b i₀ dst i = (i ≤ b) × Next dst₀ dst 0 (i * 16 * 32) (stageTwoAt (tm 32) 32 l shift src)
+Inv-loop src dst₀ l shift c b i₀ dst i = BlocksDone (stageTwoAt (tm 32) 32 l shift src) 32 l dst₀ dst i
 
 abbrev μ-loop : tie.MeasureT-loop
 μ-loop src dst₀ l shift c b i₀ dst i = b - i
+
+-- where the rounding number is known, and the offsets, as a block sees them
+add-is : (c : tie.After-rounding Inv-loop μ-loop) → Amount (toZ w64 (ofZ w64 (c .rounding .result))) (c .before .before .before .before .args .shift)
+add-is c = amount _ (c .before .before .before .before .pre .0) (toZ-ofZ (sfits-of (c .rounding .ok)) ∙ c .rounding .ensures)
+
+abbrev added : tie.After-two32-arg Inv-loop μ-loop → tie.After-offsets Inv-loop μ-loop
+added c = c .before .before .before .before .before
 
 columns32-requires : tie.Need-columns32-requires Inv-loop μ-loop
 columns32-requires c κs = tt
@@ -37,25 +44,24 @@ rounding-requires c κs = tt
 
 offsets-requires : tie.Need-offsets-requires Inv-loop μ-loop
 offsets-requires c κs =
-    let s = c .before .before .before .before in
-    let a : Amount (toZ w64 (ofZ w64 (c .rounding .result))) (s .args .shift) = amount (s .args .shift) (s .pre .0) (toZ-ofZ (sfits-of (c .rounding .ok)) ∙ c .rounding .ensures) in
-    ((ap length (c .before .before .before .columns32 .ensures) ∙ tab-length 32 _, refl), rw (a .is) (rounding-within (s .args .shift) (s .pre .0) .bound))
+    let a = add-is c in
+    ((ap length (c .before .before .before .columns32 .ensures) ∙ tab-length 32 _, refl), rw (a .is) (rounding-within _ (a .most) .bound))
 
 loop-holds : tie.Need-loop-holds Inv-loop μ-loop
-loop-holds c = (omega arith, block-none 32)
+loop-holds c = let r = c .before .before .before .before .before .before .pre .1 in blocks-none (r .0 .dst-room) (r .1)
 
 slice-aggregate-two32 : tie.Need-slice-aggregate-two32 Inv-loop μ-loop
 slice-aggregate-two32 c = sym (ap length (c .before .before .before .before .offsets .ensures) ∙ tab-length 32 _)
 
 mul-two32 : tie.Need-mul-two32 Inv-loop μ-loop
-mul-two32 c = omega (arith, block-word (c .before .before .before .before .before .before .before .before .before .before .args .l) (c .before .before .before .loop .i) (c .before .before .loop-test .taken))
+mul-two32 c = omega (arith, block-word _ (c .before .before .before .loop .i) (c .before .before .loop-test .taken))
 
 two32-requires : tie.Need-two32-requires Inv-loop μ-loop
 two32-requires c κs =
-    let s = c .before .before .before .before .before .before .before .before .before .before in
-    let l = c .before .before .before .loop in (
-      offsets-are 32 (s .args .shift) _ _ (s .pre .0) (c .before .before .before .before .before .before .before .before .before .columns32 .ensures) (amount (s .args .shift) (s .pre .0) (toZ-ofZ (sfits-of (c .before .before .before .before .before .before .rounding .ok)) ∙ c .before .before .before .before .before .before .rounding .ensures) .is) (c .before .before .before .before .before .offsets .ensures),
-      block-room 32 (s .args .l) (l .i) (l .dst) (l .inv .1 .long) (c .before .before .loop-test .taken) (s .pre .1 .0),
+    let o = added c in
+    let k = o .before .before .before .before in (
+      offsets-are 32 _ (add-is (o .before)) (k .columns32 .ensures) (o .offsets .ensures),
+      blocks-room (c .before .before .before .loop .inv) (k .before .pre .1 .0 .src-room) (c .before .before .loop-test .taken),
     )
 
 add-i : tie.Need-add-i Inv-loop μ-loop
@@ -65,19 +71,13 @@ loop-less : tie.Need-loop-less Inv-loop μ-loop
 loop-less c = omega (arith, c .before .before .before .before .loop-test .taken)
 
 loop-again : tie.Need-loop-again Inv-loop μ-loop
-loop-again c =
-    let s = c .before .before .before .before .before .before .before .before .before .before .before .before in
-    let l = c .before .before .before .before .before .loop in
-    (omega (arith, c .before .before .before .before .loop-test .taken), block-more 32 (s .args .l) (l .i) (stageTwoAt (tm 32) 32 (s .args .l) (s .args .shift) (s .args .src .now)) (l .inv .1) (c .before .two32 .ensures))
+loop-again c = let h = c .before .before .before .before in blocks-more (h .before .loop .inv) (h .loop-test .taken) (c .before .two32 .ensures)
 
 same-length : tie.Need-same-length Inv-loop μ-loop
-same-length c = c .before .loop .inv .1 .long
+same-length c = c .before .loop .inv .stored .long
 
 returns : tie.Need-returns Inv-loop μ-loop
-returns c =
-    let s = c .before .before .before .before .before .before .before .before in
-    let l = c .before .loop in
-    block-all 32 (s .args .l) (l .i) (stageTwoAt (tm 32) 32 (s .args .l) (s .args .shift) (s .args .src .now)) (l .inv .1) (omega arith) (l .inv .0) (s .pre .1 .1) (s .pre .1 .0 .dst-room)
+returns c = blocks-all (c .before .loop .inv) (c .loop-test .left)
 
 pub twos32-spec : {M : Type 1} → statement M
 twos32-spec =

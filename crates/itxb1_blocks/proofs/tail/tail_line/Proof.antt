@@ -3,13 +3,13 @@ use mathlib.Core.List.{List}
 use mathlib.Core.Path.{_≡_, refl, ap, _∙_}
 use Prim.Native.Nat.{ℕ, _+_, _*_, _-_, _≤_, _<_}
 use native.Mathlib.Omega.{arith}
-use lib.ListN.{length, getD, set, length-set}
-use lib.IntN.{ℤ, pos}
+use lib.ListN.{length, set, length-set}
+use lib.IntN.{ℤ}
 use Rattle.integers.proofs.Written.{written-next}
 use Rattle.itx_halving.specs.Lines.{Next}
 use Rattle.itx_halving.proofs.Lines.{next-none}
 use Rattle.itx_halving.proofs.Places.{next-count}
-use Rattle.itxb1_blocks.specs.Halves.{joined}
+use Rattle.itxb1_blocks.specs.Halves.{tailAt}
 use Rattle.itxb1_blocks.proofs.tail.tail_line.Statement.{statement}
 use Rattle.itxb1_blocks.proofs.tail.tail_line.Tie as tie
 
@@ -22,19 +22,15 @@ next-put {d₀} {a} {g} {d} {d′} k m v p e q s = record {
       q ∙ written-next (a + k) (a + m) G l d v (omega arith) (omega arith) (p .after G l (omega arith) t (λ i u. h i (omega arith))) (s ∙ h k (omega arith));
 }
 
--- what the line of lane j leaves
-abbrev left : List ℤ → List ℤ → List ℤ → ℕ → ℕ → ℕ → ℤ
-left h a c j shift k = joined shift (getD h (k * 16 + j) (pos 0)) (getD a (k * 16 + j) (pos 0)) (getD c k (pos 0))
-
 abbrev Inv-loop : tie.InvT-loop
-Inv-loop h a c dst₀ n at j shift m q₀ dst q = (q ≤ m) × Next dst₀ dst at (4 * q) (left h a c j shift)
+Inv-loop h a c dst₀ n at j shift m q₀ dst q = (q ≤ m) × Next dst₀ dst at (4 * q) (tailAt shift h a c j)
 
 abbrev μ-loop : tie.MeasureT-loop
 μ-loop h a c dst₀ n at j shift m q₀ dst q = m - q
 
 -- within a turn: after whatever led to the turn's start
 abbrev Inv-loop2 : tie.InvT-loop2
-Inv-loop2 h a c dst₁ n at j shift m q r₀ dst r = (r ≤ 4) × ((d : List ℤ) → Next d dst₁ at (4 * q) (left h a c j shift) → Next d dst at (4 * q + r) (left h a c j shift))
+Inv-loop2 h a c dst₁ n at j shift m q r₀ dst r = (r ≤ 4) × ((d : List ℤ) → Next d dst₁ at (4 * q) (tailAt shift h a c j) → Next d dst at (4 * q + r) (tailAt shift h a c j))
 
 abbrev μ-loop2 : tie.MeasureT-loop2
 μ-loop2 h a c dst₁ n at j shift m q r₀ dst r = 4 - r
@@ -53,7 +49,7 @@ module _ (c : tie.In-loop2 Inv-loop2 μ-loop2 Inv-loop μ-loop) where
   word : k * 16 < length (s .args .h .now)
   word = omega (arith, inside, s .pre .0 .h-room)
 
-  so-far : Next (s .args .dst .now) (c .before .loop2 .dst) (s .args .at) k (left (s .args .h .now) (s .args .a .now) (s .args .c .now) (s .args .j) (s .args .shift))
+  so-far : Next (s .args .dst .now) (c .before .loop2 .dst) (s .args .at) k (tailAt (s .args .shift) (s .args .h .now) (s .args .a .now) (s .args .c .now) (s .args .j))
   so-far = c .before .loop2 .inv .1 (s .args .dst .now) (c .before .before .before .loop .inv .1)
 
 loop-holds : tie.Need-loop-holds Inv-loop2 μ-loop2 Inv-loop μ-loop
@@ -82,7 +78,10 @@ loop2-less c = omega (arith, c .before .before .before .loop2-test .taken)
 loop2-again : tie.Need-loop2-again Inv-loop2 μ-loop2 Inv-loop μ-loop
 loop2-again c =
     let u = c .before .before .before in
-    (omega (arith, u .loop2-test .taken), λ d p. next-put (k u) (4 * u .before .before .before .loop .q + (u .before .loop2 .r + 1)) _ (u .before .loop2 .inv .1 d p) (omega arith) (c .before .tail-at .ensures) refl)
+    let q = 4 * u .before .before .before .loop .q in (
+      omega (arith, u .loop2-test .taken),
+      λ d p. next-put (k u) (q + (u .before .loop2 .r + 1)) _ (u .before .loop2 .inv .1 d p) (omega arith) (c .before .tail-at .ensures) refl,
+    )
 
 add-q : tie.Need-add-q Inv-loop2 μ-loop2 Inv-loop μ-loop
 add-q c = omega (arith, c .before .before .loop-test .taken, c .before .before .before .before .pre .0 .fours)
