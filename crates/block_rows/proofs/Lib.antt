@@ -1,6 +1,5 @@
 -- Laws that the crates that compare blocks share.
 pub mod Signed
-mod Reading
 mod Wrapped
 pub mod Running
 pub mod Cells

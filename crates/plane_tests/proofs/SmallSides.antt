@@ -23,10 +23,3 @@ shifted k = (1 * 2 ^ k) % 2 ^ bits w64
 
 pub shifted-is : (k : ℕ) → k ≤ 6 → shifted k ≡ 2 ^ k
 shifted-is k h = one-shl w64 k (omega arith)
-
--- the sides of logarithms that are allowed
-pub shifted-sides :
-    (j k : ℕ) → ltb 6 j || ltb 6 k ≡ false → ((1 ≤ shifted j) × (shifted j ≤ 64)) × ((1 ≤ shifted k) × (shifted k ≤ 64))
-shifted-sides j k e =
-    let h = logs-small j k e in
-    (side-small j (shifted j) (shifted-is j (h .0)) (h .0), side-small k (shifted k) (shifted-is k (h .1)) (h .1))

@@ -1,4 +1,2 @@
 -- Laws that several proofs of this crate need.
 pub mod Squares
-pub mod Logs
-pub mod Ends

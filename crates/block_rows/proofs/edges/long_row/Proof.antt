@@ -11,7 +11,7 @@ use mir.Facts.{toZ-ofZ}
 use Rattle.integers.specs.Lists.{tab}
 use Rattle.integers.proofs.Loop.{Filled, filled-start, filled-step, filled-end}
 use Rattle.evc.specs.Planes.{edge}
-use Rattle.block_rows.proofs.Reading.{head-at, run-in, run-at, past-at}
+use Rattle.block_rows.proofs.edges.Reading.{head-at, run-in, run-at, past-at}
 use Rattle.block_rows.proofs.edges.long_row.Statement.{statement}
 use Rattle.block_rows.proofs.edges.long_row.Tie as tie
 

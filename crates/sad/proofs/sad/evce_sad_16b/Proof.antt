@@ -13,7 +13,7 @@ use Rattle.plane_tests.proofs.Planes.{plane-holds, plane-alike}
 use Rattle.block_rows.specs.Edges.{AtEdges}
 use Rattle.block_rows.proofs.AtEdges.{edges-in, edges-alike}
 use Rattle.sad_answer.proofs.Sads.{sad-size, sad-depth, sad-area, sad-second, sad-sides, sad-ends}
-use Rattle.sad.proofs.Ends.{sad-totalled}
+use Rattle.sad.proofs.sad.Ends.{sad-totalled}
 use Rattle.sad.proofs.sad.evce_sad_16b.Statement.{statement}
 use Rattle.sad.proofs.sad.evce_sad_16b.Tie as tie
 

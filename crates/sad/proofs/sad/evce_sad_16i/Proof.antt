@@ -11,7 +11,7 @@ use Rattle.plane_tests.specs.Areas.{outsidePlane}
 use Rattle.plane_tests.specs.Blocks.{TwoBlocks}
 use Rattle.plane_tests.proofs.Planes.{planes-hold, plane-alike}
 use Rattle.sad_answer.proofs.Sads.{sad-size, sad-depth, sad-area, sad-second, sad-sides, sad-ends}
-use Rattle.sad.proofs.Ends.{sad-totalled}
+use Rattle.sad.proofs.sad.Ends.{sad-totalled}
 use Rattle.sad.proofs.sad.evce_sad_16i.Statement.{statement}
 use Rattle.sad.proofs.sad.evce_sad_16i.Tie as tie
 

@@ -12,9 +12,9 @@ use Rattle.evc.proofs.Tests.{outside-no}
 use Rattle.plane_tests.specs.Areas.{outsidePlane}
 use Rattle.plane_tests.specs.Blocks.{TwoBlocks}
 use Rattle.plane_tests.proofs.Planes.{planes-hold, plane-alike}
-use Rattle.plane_tests.proofs.SmallSides.{logs-small, shifted, shifted-sides}
-use Rattle.ssd.proofs.Ends.{ssd-alike, ssd-totalled}
-use Rattle.ssd.proofs.Logs.{ssd-size, ssd-depth, ssd-area, ssd-second, ssd-rest}
+use Rattle.plane_tests.proofs.SmallSides.{logs-small, shifted}
+use Rattle.ssd.proofs.ssd.Ends.{ssd-alike, ssd-totalled}
+use Rattle.ssd.proofs.ssd.Logs.{shifted-sides, ssd-size, ssd-depth, ssd-area, ssd-second, ssd-rest}
 use Rattle.ssd.proofs.ssd.evce_ssd_16b.Statement.{statement}
 use Rattle.ssd.proofs.ssd.evce_ssd_16b.Tie as tie
 

@@ -11,11 +11,11 @@ use Rattle.evc.specs.Tests.{outside}
 use Rattle.evc.specs.Planes.{Block, atEdges, planeOf}
 use Rattle.evc.proofs.Tests.{outside-no}
 use Rattle.plane_tests.specs.Areas.{outsideEdges}
-use Rattle.plane_tests.proofs.SmallSides.{logs-small, shifted, shifted-sides}
+use Rattle.plane_tests.proofs.SmallSides.{logs-small, shifted}
 use Rattle.block_rows.specs.Edges.{EdgesIn}
 use Rattle.block_rows.proofs.AtEdges.{edges-in, edges-alike}
-use Rattle.ssd.proofs.Ends.{ssd-alike, ssd-totalled}
-use Rattle.ssd.proofs.Logs.{ssd-size, ssd-depth, ssd-area, ssd-second, ssd-rest}
+use Rattle.ssd.proofs.ssd.Ends.{ssd-alike, ssd-totalled}
+use Rattle.ssd.proofs.ssd.Logs.{shifted-sides, ssd-size, ssd-depth, ssd-area, ssd-second, ssd-rest}
 use Rattle.ssd.proofs.ssd.evce_ssd_16i.Statement.{statement}
 use Rattle.ssd.proofs.ssd.evce_ssd_16i.Tie as tie
 

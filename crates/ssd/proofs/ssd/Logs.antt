@@ -2,7 +2,7 @@
 -- forms where the definitions speak of powers. Assumes nothing.
 use mathlib.Core.Path.{_≡_, refl, ap, ap₂, _∙_}
 use mathlib.Core.Bool.{true, false, _||_}
-use Prim.Native.Nat.{ℕ, _*_, _-_, _^_}
+use Prim.Native.Nat.{ℕ, _*_, _-_, _^_, _≤_}
 use lib.Dec.{ltb}
 use lib.IntN.{ℤ, pos}
 use Rattle.evc.specs.Answers.{Reply, refused}
@@ -11,8 +11,15 @@ use Rattle.evc.specs.Planes.{Block}
 use Rattle.evc.specs.Differences.{difference, ssdTotal}
 use Rattle.evc.specs.Calls.{compareTests, sampleTests, ssdReply}
 use Rattle.plane_tests.specs.Blocks.{rest}
-use Rattle.plane_tests.proofs.SmallSides.{logs-small, shifted, shifted-is}
+use Rattle.plane_tests.proofs.SmallSides.{logs-small, side-small, shifted, shifted-is}
 use Rattle.plane_tests.proofs.Replies.{at-size, at-depth, at-area, at-second, at-rest}
+
+-- the sides of logarithms that are allowed
+pub shifted-sides :
+    (j k : ℕ) → ltb 6 j || ltb 6 k ≡ false → ((1 ≤ shifted j) × (shifted j ≤ 64)) × ((1 ≤ shifted k) × (shifted k ≤ 64))
+shifted-sides j k e =
+    let h = logs-small j k e in
+    (side-small j (shifted j) (shifted-is j (h .0)) (h .0), side-small k (shifted k) (shifted-is k (h .1)) (h .1))
 
 module _ (logw logh depth : ℕ) (A B : ℕ → ℕ → Block) where
   -- the promised answer
