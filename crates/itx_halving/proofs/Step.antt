@@ -11,7 +11,7 @@ use lib.Seq.{getD-set-same, getD-set-other}
 use lib.IntN.{ℤ, pos, _+ℤ_, _-ℤ_, _*ℤ_, +ℤ-idl}
 use Rattle.integers.specs.Sum.{sum}
 use Rattle.itx_table.specs.Mirror.{Mirrored}
-use Rattle.itx_halving.specs.Line.{line, rows, dot, odd, Inputs, Table, Level, Sums, Part}
+use Rattle.itx_halving.specs.Line.{line, rows, dot, odd, Inputs, Table, Level, Sums, Part, Steps, Begun}
 use Rattle.itx_halving.proofs.Halving.{split, mirrored}
 
 module _ {e x : List ℤ} {T : ℕ → ℕ → ℤ} {q m : ℕ} where
@@ -36,6 +36,19 @@ module _ {e x : List ℤ} {T : ℕ → ℕ → ℤ} {q m : ℕ} where
 -- a size 2m that divides the line's is a level of it
 pub level-at : {t x : List ℤ} {w N : ℕ} → Table t w N → Inputs x N → (m q : ℕ) → (m + m) * q ≡ N → 2 ≤ m → 0 < q → Level t w x m q
 level-at g v m q e h k = record { table = rw e g; inputs = rw e v; size = h; stride = k }
+
+-- so levels follow each other: the first has size 4, and the next is twice as large
+module _ {t x e : List ℤ} {w : ℕ} (q : ℕ) where
+  pub begin : Begun t w x e (q + q) → 0 < q → Steps t w x e 2 q 0
+  begin b s = record { level = level-at (b .table) (b .inputs) 2 q (omega arith) (omega arith) s; part = none (b .sums) }
+
+  pub up : {m : ℕ} → Steps t w x e m (q + q) m → 0 < q → Steps t w x e (m + m) q 0
+  up {m} b s =
+      let l = b .level in
+      record {
+        level = level-at (l .table) (l .inputs) (m + m) q (add-mul (m + m) (m + m) q ∙ sym (mul-add (m + m) q q)) (omega (arith, l .size)) s;
+        part = none (all (b .part));
+      }
 
 -- a place of the level is a place of the buffer
 pub place : (m q : ℕ) → 0 < q → (n : ℕ) → n < m + m → n < (m + m) * q

@@ -63,3 +63,14 @@ pub record Part (e : List ℤ) (T : ℕ → ℕ → ℤ) (q m n : ℕ) (x : List
   pub low : (j : ℕ) → j < n → getD e j (pos 0) ≡ dot T q (m + m) j (line x)
   pub high : (j : ℕ) → j < n → getD e (m + m - suc j) (pos 0) ≡ dot T q (m + m) (m + m - suc j) (line x)
   pub rest : (j : ℕ) → n ≤ j → j < m → getD e j (pos 0) ≡ dot T (q + q) m j (line x)
+
+-- a level of the halving whose first n places and their mirrors are done
+pub record Steps (t : List ℤ) (w : ℕ) (x e : List ℤ) (m q n : ℕ) : Type 0 where
+  pub level : Level t w x m q
+  pub part : Part e (rows t w) q m n x
+
+-- where the levels start: the product of size 2, of the inputs at 0 and q, half of the line
+pub record Begun (t : List ℤ) (w : ℕ) (x e : List ℤ) (q : ℕ) : Type 0 where
+  pub table : Table t w (q + q)
+  pub inputs : Inputs x (q + q)
+  pub sums : Sums e (rows t w) q 2 x

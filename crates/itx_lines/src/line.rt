@@ -4,7 +4,7 @@
 ghost use mathlib.Core.Path.{_≡_};
 ghost use Prim.Native.Nat.{_+_, _<_, _≤_};
 ghost use lib.ListN.{length};
-ghost use Rattle.itx_halving.specs.Line.{rows, line, odd, Small, Term, Inputs, Table, Level, Sums, Part};
+ghost use Rattle.itx_halving.specs.Line.{rows, line, odd, Small, Term, Inputs, Table, Level, Sums, Steps, Begun};
 
 // A table's number times an input.
 fn term(t: &[i8], x: &[i64], at: usize, i: usize) -> i64
@@ -29,8 +29,8 @@ fn odd_sum(t: &[i8], w: usize, x: &[i64], m: usize, q: usize, n: usize) -> i64
 
 // The halving at place n and its mirror: the sum and the difference of the halves.
 fn step(t: &[i8], w: usize, x: &[i64], e: &mut [i64], m: usize, q: usize, n: usize)
-    requires { ⌜ (Level (now t) w (now x) m q × (n < m)) × Part (now e) (rows (now t) w) q m n (now x) ⌝ }
-    ensures { λ _. ⌜ Part (now (e .exit)) (rows (now (t .entry)) w) q m (n + 1) (now (x .entry)) ⌝ }
+    requires { ⌜ Steps (now t) w (now x) (now e) m q n × (n < m) ⌝ }
+    ensures { λ _. ⌜ Steps (now (t .entry)) w (now (x .entry)) (now (e .exit)) m q (n + 1) ⌝ }
 {
     let o = odd_sum(t, w, x, m, q, n);
     let v = e[n];
@@ -49,8 +49,8 @@ pub(crate) fn steps(
     a: usize,
     b: usize,
 )
-    requires { ⌜ (Level (now t) w (now x) m q × ((a ≤ b) × (b ≤ m))) × Part (now e) (rows (now t) w) q m a (now x) ⌝ }
-    ensures { λ _. ⌜ Part (now (e .exit)) (rows (now (t .entry)) w) q m b (now (x .entry)) ⌝ }
+    requires { ⌜ Steps (now t) w (now x) (now e) m q a × ((a ≤ b) × (b ≤ m)) ⌝ }
+    ensures { λ _. ⌜ Steps (now (t .entry)) w (now (x .entry)) (now (e .exit)) m q b ⌝ }
 {
     for n in a..b {
         step(t, w, x, e, m, q, n);
@@ -60,7 +60,7 @@ pub(crate) fn steps(
 // The product of size 2, of the inputs at 0 and q: four numbers of the table.
 fn start(t: &[i8], w: usize, x: &[i64], e: &mut [i64], q: usize)
     requires { ⌜ (Table (now t) w (q + q) × Inputs (now x) (q + q)) × ((0 < q) × (length (now e) ≡ q + q)) ⌝ }
-    ensures { λ _. ⌜ Sums (now (e .exit)) (rows (now (t .entry)) w) q 2 (now (x .entry)) ⌝ }
+    ensures { λ _. ⌜ Begun (now (t .entry)) w (now (x .entry)) (now (e .exit)) q ⌝ }
 {
     e[0] = term(t, x, 0, 0) + term(t, x, q * w, q);
     e[1] = term(t, x, 1, 0) + term(t, x, q * w + 1, q);

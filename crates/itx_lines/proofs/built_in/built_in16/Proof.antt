@@ -13,14 +13,13 @@ slice-aggregate-line16 c = search needs
 
 line16-requires : tie.Need-line16-requires
 line16-requires c κs =
-    ((built-in-table 4 (omega arith) (c .before .before .before .table .result) (c .before .before .before .table .ensures), c .before .before .before .before .pre .0), c .before .before .before .before .pre .1)
+    let t = c .before .before .before in ((built-in-table 4 (omega arith) _ (t .table .ensures), t .before .pre .0), t .before .pre .1)
 
 same-length : tie.Need-same-length
 same-length c = search needs
 
 returns : tie.Need-returns
-returns c =
-    built-in-sums 4 (omega arith) (c .before .before .before .before .before .table .result) (c .before .before .before .before .before .table .ensures) (c .before .line16 .ensures)
+returns c = built-in-sums 4 (omega arith) _ (c .before .before .before .before .before .table .ensures) (c .before .line16 .ensures)
 
 pub built-in16-spec : {M : Type 1} → statement M
 built-in16-spec =

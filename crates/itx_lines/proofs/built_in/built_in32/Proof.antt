@@ -13,14 +13,13 @@ slice-aggregate-line32 c = search needs
 
 line32-requires : tie.Need-line32-requires
 line32-requires c κs =
-    ((built-in-table 5 (omega arith) (c .before .before .before .table .result) (c .before .before .before .table .ensures), c .before .before .before .before .pre .0), c .before .before .before .before .pre .1)
+    let t = c .before .before .before in ((built-in-table 5 (omega arith) _ (t .table .ensures), t .before .pre .0), t .before .pre .1)
 
 same-length : tie.Need-same-length
 same-length c = search needs
 
 returns : tie.Need-returns
-returns c =
-    built-in-sums 5 (omega arith) (c .before .before .before .before .before .table .result) (c .before .before .before .before .before .table .ensures) (c .before .line32 .ensures)
+returns c = built-in-sums 5 (omega arith) _ (c .before .before .before .before .before .table .ensures) (c .before .line32 .ensures)
 
 pub built-in32-spec : {M : Type 1} → statement M
 built-in32-spec =

@@ -11,8 +11,8 @@ use Rattle.itx_lines.proofs.built_in.built_in64.Statement.{statement}
 use Rattle.itx_lines.proofs.built_in.built_in64.Tie as tie
 
 -- the same sums, by an equal table
-same : {e x : List ℤ} (t u : List ℤ) → u ≡ t → Sums e (rows u 64) 2 32 x → Sums e (rows t 64) 2 32 x
-same {e} {x} t u p s = subst (λ (l : List ℤ). Sums e (rows l 64) 2 32 x) p s
+same : {e x t u : List ℤ} → u ≡ t → Sums e (rows u 64) 2 32 x → Sums e (rows t 64) 2 32 x
+same {e} {x} p s = subst (λ (l : List ℤ). Sums e (rows l 64) 2 32 x) p s
 
 table-requires : tie.Need-table-requires
 table-requires c κs = search needs
@@ -22,20 +22,33 @@ slice-aggregate-half64 c = search needs
 
 half64-requires : tie.Need-half64-requires
 half64-requires c κs =
-    let s = c .before .before .before .before in ((built-in-table 6 (omega arith) (c .before .before .before .table .result) (c .before .before .before .table .ensures), s .pre .1 .0), s .pre .1 .1)
+    let t = c .before .before .before in
+    let s = t .before in
+    ((built-in-table 6 (omega arith) _ (t .table .ensures), s .pre .1 .0), s .pre .1 .1)
+
+-- size 32 summed, and the table made, as the last level sees them
+abbrev summed : tie.After-steps-arg3 → tie.After-half64
+summed c = c .before .before .before .before
+
+abbrev made : tie.After-steps-arg3 → tie.After-table
+made c = summed c .before .before .before .before
 
 steps-requires : tie.Need-steps-requires
 steps-requires c κs =
-    let s = c .before .before .before .before .before .before .before .before .before in (
-      (level-at (built-in-table 6 (omega arith) (s .args .t .now) (s .pre .0)) (s .pre .1 .0) 32 1 refl (omega arith) (omega arith), (omega arith, omega arith)),
-      none (same (s .args .t .now) (c .before .before .before .before .before .before .before .before .table .result) (c .before .before .before .before .before .before .before .before .table .ensures ∙ sym (s .pre .0)) (c .before .before .before .before .half64 .ensures)),
+    let t = made c in
+    let s = t .before in (
+      record {
+        level = level-at (built-in-table 6 (omega arith) (s .args .t .now) (s .pre .0)) (s .pre .1 .0) 32 1 refl (omega arith) (omega arith);
+        part = none (same (t .table .ensures ∙ sym (s .pre .0)) (summed c .half64 .ensures));
+      },
+      (omega arith, omega arith),
     )
 
 same-length : tie.Need-same-length
 same-length c = search needs
 
 returns : tie.Need-returns
-returns c = let s = c .before .before .before .before .before .before .before .before .before .before .before in built-in-sums 6 (omega arith) (s .args .t .now) (s .pre .0) (all (c .before .steps .ensures))
+returns c = built-in-sums 6 (omega arith) _ (made (c .before .before) .before .pre .0) (all (c .before .steps .ensures .part))
 
 pub built-in64-spec : {M : Type 1} → statement M
 built-in64-spec =

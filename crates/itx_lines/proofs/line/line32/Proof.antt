@@ -1,8 +1,8 @@
 -- `itx_lines::line::line32` meets its contract: level after level. Assumes nothing.
 use borrow.Author.Needs.{needs}
-use mathlib.Core.Path.{refl, sym, _∙_}
+use mathlib.Core.Path.{sym, _∙_}
 use native.Mathlib.Omega.{arith}
-use Rattle.itx_halving.proofs.Step.{none, all, level-at}
+use Rattle.itx_halving.proofs.Step.{begin, up, all}
 use Rattle.itx_lines.proofs.line.line32.Statement.{statement}
 use Rattle.itx_lines.proofs.line.line32.Tie as tie
 
@@ -10,34 +10,38 @@ start-requires : tie.Need-start-requires
 start-requires c κs = search needs
 
 steps-requires : tie.Need-steps-requires
-steps-requires c κs = ((level-at (c .before .before .before .before .pre .0 .0) (c .before .before .before .before .pre .0 .1) 2 8 refl (omega arith) (omega arith), (omega arith, omega arith)), none (c .before .before .start .ensures))
+steps-requires c κs = (begin 8 (c .before .before .start .ensures) (omega arith), (omega arith, omega arith))
 
 steps-requires-2 : tie.Need-steps-requires-2
-steps-requires-2 c κs = ((level-at (c .before .before .before .before .before .before .before .pre .0 .0) (c .before .before .before .before .before .before .before .pre .0 .1) 4 4 refl (omega arith) (omega arith), (omega arith, omega arith)), none (all (c .before .before .steps .ensures)))
+steps-requires-2 c κs = (up 4 (c .before .before .steps .ensures) (omega arith), (omega arith, omega arith))
 
 steps-requires-3 : tie.Need-steps-requires-3
-steps-requires-3 c κs = ((level-at (c .before .before .before .before .before .before .before .before .before .before .pre .0 .0) (c .before .before .before .before .before .before .before .before .before .before .pre .0 .1) 8 2 refl (omega arith) (omega arith), (omega arith, omega arith)), none (all (c .before .before .steps2 .ensures)))
+steps-requires-3 c κs = (up 2 (c .before .before .steps2 .ensures) (omega arith), (omega arith, omega arith))
 
 steps-requires-4 : tie.Need-steps-requires-4
-steps-requires-4 c κs = ((level-at (c .before .before .before .before .before .before .before .before .before .before .before .before .before .pre .0 .0) (c .before .before .before .before .before .before .before .before .before .before .before .before .before .pre .0 .1) 8 2 refl (omega arith) (omega arith), (omega arith, omega arith)), c .before .before .steps3 .ensures)
+steps-requires-4 c κs = (c .before .before .steps3 .ensures, (omega arith, omega arith))
 
 steps-requires-5 : tie.Need-steps-requires-5
-steps-requires-5 c κs = ((level-at (c .before .before .before .before .before .before .before .before .before .before .before .before .before .before .before .before .pre .0 .0) (c .before .before .before .before .before .before .before .before .before .before .before .before .before .before .before .before .pre .0 .1) 16 1 refl (omega arith) (omega arith), (omega arith, omega arith)), none (all (c .before .before .steps4 .ensures)))
+steps-requires-5 c κs = (up 1 (c .before .before .steps4 .ensures) (omega arith), (omega arith, omega arith))
 
 steps-requires-6 : tie.Need-steps-requires-6
-steps-requires-6 c κs = ((level-at (c .before .before .before .before .before .before .before .before .before .before .before .before .before .before .before .before .before .before .before .pre .0 .0) (c .before .before .before .before .before .before .before .before .before .before .before .before .before .before .before .before .before .before .before .pre .0 .1) 16 1 refl (omega arith) (omega arith), (omega arith, omega arith)), c .before .before .steps5 .ensures)
+steps-requires-6 c κs = (c .before .before .steps5 .ensures, (omega arith, omega arith))
 
 steps-requires-7 : tie.Need-steps-requires-7
-steps-requires-7 c κs = ((level-at (c .before .before .before .before .before .before .before .before .before .before .before .before .before .before .before .before .before .before .before .before .before .before .pre .0 .0) (c .before .before .before .before .before .before .before .before .before .before .before .before .before .before .before .before .before .before .before .before .before .before .pre .0 .1) 16 1 refl (omega arith) (omega arith), (omega arith, omega arith)), c .before .before .steps6 .ensures)
+steps-requires-7 c κs = (c .before .before .steps6 .ensures, (omega arith, omega arith))
 
 steps-requires-8 : tie.Need-steps-requires-8
-steps-requires-8 c κs = ((level-at (c .before .before .before .before .before .before .before .before .before .before .before .before .before .before .before .before .before .before .before .before .before .before .before .before .before .pre .0 .0) (c .before .before .before .before .before .before .before .before .before .before .before .before .before .before .before .before .before .before .before .before .before .before .before .before .before .pre .0 .1) 16 1 refl (omega arith) (omega arith), (omega arith, omega arith)), c .before .before .steps7 .ensures)
+steps-requires-8 c κs = (c .before .before .steps7 .ensures, (omega arith, omega arith))
 
 same-length : tie.Need-same-length
-same-length c = c .before .steps8 .ensures .long ∙ sym (c .before .before .before .before .before .before .before .before .before .before .before .before .before .before .before .before .before .before .before .before .before .before .before .before .before .before .before .pre .1)
+same-length c =
+    let six = c .before .before .before .before .before .before .before in
+    let four = six .before .before .before .before .before .before in
+    let two = four .before .before .before .before .before .before in
+    let entry = two .before .before .before .before .before .before .before .before in c .before .steps8 .ensures .part .long ∙ sym (entry .pre .1)
 
 returns : tie.Need-returns
-returns c = all (c .before .steps8 .ensures)
+returns c = all (c .before .steps8 .ensures .part)
 
 pub line32-spec : {M : Type 1} → statement M
 line32-spec =

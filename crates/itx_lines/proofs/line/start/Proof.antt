@@ -36,7 +36,11 @@ module _ (s : tie.Start) where
 abbrev known : (u v : ℤ) → natAbs u ≤ term → natAbs v ≤ term → ℕ → Known
 known u v h k = env (small w64 u term (record { bound = h }) tt ∷ small w64 v term (record { bound = k }) tt ∷ [])
 
-stored : {t x : List ℤ} {a b i j : ℕ} {u v : ℤ} → Term t a x i u → Term t b x j v → toZ w64 (ofZ w64 (toZ w64 (ofZ w64 u) +ℤ toZ w64 (ofZ w64 v))) ≡ getD t a (pos 0) *ℤ line x i +ℤ getD t b (pos 0) *ℤ line x j
+stored :
+    {t x : List ℤ} {a b i j : ℕ} {u v : ℤ} →
+    Term t a x i u →
+    Term t b x j v →
+    toZ w64 (ofZ w64 (toZ w64 (ofZ w64 u) +ℤ toZ w64 (ofZ w64 v))) ≡ getD t a (pos 0) *ℤ line x i +ℤ getD t b (pos 0) *ℤ line x j
 stored {u = u} {v = v} h k =
     reads (known u v (h .small) (k .small)) (loc w64 (add (var 0) (var 1))) tt ∙ ap₂ _+ℤ_ (h .is) (k .is)
 
@@ -81,8 +85,13 @@ returns : tie.Need-returns
 returns c =
     let s = c .before .before .before .before in
     let c2 = c .before .before in
-    started (s .args .t .now) (s .args .x .now) (s .args .e .now) (s .args .w) (s .args .q) (s .pre .1 .0) (s .pre .1 .1) _ _
-    (stored (c2 .before .term .ensures) (c2 .term2 .ensures)) (stored (c .before .term3 .ensures) (c .term4 .ensures))
+    record {
+      table = s .pre .0 .0;
+      inputs = s .pre .0 .1;
+      sums =
+          started (s .args .t .now) (s .args .x .now) (s .args .e .now) (s .args .w) (s .args .q) (s .pre .1 .0) (s .pre .1 .1) _ _
+          (stored (c2 .before .term .ensures) (c2 .term2 .ensures)) (stored (c .before .term3 .ensures) (c .term4 .ensures));
+    }
 
 pub start-spec : {M : Type 1} → statement M
 start-spec =
