@@ -7,29 +7,33 @@ use native.Mathlib.Omega.{arith}
 use lib.IntN.{ℤ, pos, _+ℤ_}
 use lib.ListN.{length, getD, List·getD-eq-default}
 use Rattle.evc.specs.Planes.{edge}
-use Rattle.block_rows.specs.Edges.{behind, Least}
+use Rattle.block_rows.specs.Edges.{behind, edgeRow, Least}
 use Rattle.block_rows.proofs.Signed.{edge-under, edge-over}
 
-module _ (row : List ℕ) (x : ℤ) (w down up left n k : ℕ) (a : down ≡ behind x) (b : up ≡ edge (x +ℤ pos 0)) (c : left ≡ length row - up) (p : Least down w n) (q : Least left (w - n) k) where
-  pub head-at : (i : ℕ) → i < n → getD row 0 0 ≡ getD row (edge (x +ℤ pos i)) 0
-  head-at i h = ap (λ (m : ℕ). getD row m 0) (sym (edge-under x i (omega (arith, a, p .under))))
+pub record Runs (row : List ℕ) (x : ℤ) (w up n k : ℕ) : Type 0 where
+  pub down : Least (behind x) w n
+  pub first : up ≡ edge (x +ℤ pos 0)
+  pub rest : Least (length row - up) (w - n) k
+
+module _ {row : List ℕ} {x : ℤ} {w up n k : ℕ} (r : Runs row x w up n k) where
+  pub head-at : (i : ℕ) → i < n → getD row 0 0 ≡ edgeRow row x i
+  head-at i h = ap (λ (m : ℕ). getD row m 0) (sym (edge-under x i (omega (arith, r .down .under))))
 
   -- from the n-th on
   over : (i : ℕ) → n ≤ i → i < w → up + (i - n) ≡ edge (x +ℤ pos i)
   over i h l =
-      let d = p .over n (omega arith) (omega arith) in
-      let e = p .under in
-      let r = edge-over x i (omega arith) in
-      omega (arith, r)
+      let d = r .down .over n (omega arith) (omega arith) in
+      let e = r .down .under in
+      omega (arith, r .first, edge-over x i (omega arith))
 
   pub run-in : (i : ℕ) → n ≤ i → i < n + k → up + (i - n) < length row
-  run-in i h l = omega (arith, q .under)
+  run-in i h l = omega (arith, r .rest .under)
 
-  pub run-at : (i : ℕ) → n ≤ i → i < n + k → getD row (up + (i - n)) 0 ≡ getD row (edge (x +ℤ pos i)) 0
-  run-at i h l = ap (λ (m : ℕ). getD row m 0) (over i h (omega (arith, q .within, p .within)))
+  pub run-at : (i : ℕ) → n ≤ i → i < n + k → getD row (up + (i - n)) 0 ≡ edgeRow row x i
+  run-at i h l = ap (λ (m : ℕ). getD row m 0) (over i h (omega (arith, r .rest .within, r .down .within)))
 
-  pub past-at : (i : ℕ) → n + k ≤ i → i < w → 0 ≡ getD row (edge (x +ℤ pos i)) 0
+  pub past-at : (i : ℕ) → n + k ≤ i → i < w → 0 ≡ edgeRow row x i
   past-at i h l =
-      let r = over i (omega arith) l in
-      let s = q .over (i - n) (omega arith) (omega arith) in
+      let e = over i (omega arith) l in
+      let s = r .rest .over (i - n) (omega arith) (omega arith) in
       sym (List·getD-eq-default row 0 {n = edge (x +ℤ pos i)} (omega arith))

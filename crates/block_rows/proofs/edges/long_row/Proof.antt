@@ -1,75 +1,59 @@
 -- `block_rows::edges::long_row` meets its contract: while a position is negative it reads at 0, and then one place further each time. Assumes nothing.
-use mathlib.Core.Path.{_≡_, refl, ap, _∙_, subst}
-use mathlib.Core.List.{List}
+use mathlib.Core.Path.{_≡_, refl, _∙_}
 use Prim.Native.Nat.{ℕ, _+_, _-_, _≤_, _<_}
 use native.Mathlib.Omega.{arith}
-use lib.IntN.{ℤ, pos, _+ℤ_}
-use lib.ListN.{length, getD}
+use lib.ListN.{length}
 use mir.Syntax.{w16}
 use mir.Val.{toZ, ofZ}
 use mir.Facts.{toZ-ofZ}
-use Rattle.integers.specs.Lists.{tab}
 use Rattle.integers.proofs.Loop.{Filled, filled-start, filled-step, filled-end}
-use Rattle.evc.specs.Planes.{edge}
-use Rattle.block_rows.proofs.edges.Reading.{head-at, run-in, run-at, past-at}
+use Rattle.block_rows.specs.Edges.{edgeRow}
+use Rattle.block_rows.proofs.edges.Reading.{Runs, head-at, run-in, run-at, past-at}
 use Rattle.block_rows.proofs.edges.long_row.Statement.{statement}
 use Rattle.block_rows.proofs.edges.long_row.Tie as tie
 
 abbrev Inv-loop : tie.InvT-loop
-Inv-loop row x out₀ w up n m head i₀ out i = Filled ℕ 0 w (λ k. getD row (edge (toZ w16 x +ℤ pos k)) 0) out i × (i ≤ n)
+Inv-loop row x out₀ w up n m head i₀ out i = Filled ℕ 0 w (edgeRow row (toZ w16 x)) out i × (i ≤ n)
 
 abbrev μ-loop : tie.MeasureT-loop
 μ-loop row x out₀ w up n m head i₀ out i = n - i
 
 abbrev Inv-loop2 : tie.InvT-loop2
-Inv-loop2 row x out₀ w up n m head i₀ out i = Filled ℕ 0 w (λ k. getD row (edge (toZ w16 x +ℤ pos k)) 0) out i × (n ≤ i) × (i ≤ m)
+Inv-loop2 row x out₀ w up n m head i₀ out i = Filled ℕ 0 w (edgeRow row (toZ w16 x)) out i × (n ≤ i) × (i ≤ m)
 
 abbrev μ-loop2 : tie.MeasureT-loop2
 μ-loop2 row x out₀ w up n m head i₀ out i = m - i
 
 abbrev Inv-loop3 : tie.InvT-loop3
-Inv-loop3 row x out₀ w up n m head i₀ out i = Filled ℕ 0 w (λ k. getD row (edge (toZ w16 x +ℤ pos k)) 0) out i × (m ≤ i)
+Inv-loop3 row x out₀ w up n m head i₀ out i = Filled ℕ 0 w (edgeRow row (toZ w16 x)) out i × (m ≤ i)
 
 abbrev μ-loop3 : tie.MeasureT-loop3
 μ-loop3 row x out₀ w up n m head i₀ out i = w - i
 
--- the laws of the three runs, at this call's numbers
-module _ (c : tie.After-sample Inv-loop μ-loop Inv-loop2 μ-loop2 Inv-loop3 μ-loop3) where
-  abbrev row : List ℕ
-  row = c .before .before .before .before .before .before .before .before .args .row .now
+-- the three runs, at this call's numbers
+runs :
+    (c : tie.After-sample Inv-loop μ-loop Inv-loop2 μ-loop2 Inv-loop3 μ-loop3) →
+    let b = c .before .before .before in
+    let a = b .before .before .before .before .before .args in
+    Runs (a .row .now) (toZ w16 (ofZ w16 (a .x))) (length (a .out .now)) (b .before .before .edge .result) (b .least .result) (c .before .least2 .result)
+runs c =
+    let b = c .before .before .before in
+    record {
+      down = rw (b .before .below .ensures .0) at (b .least .ensures);
+      first = b .before .before .edge .ensures;
+      rest = rw (c .before .before .left .ensures) at (c .before .least2 .ensures);
+    }
 
-  abbrev x : ℤ
-  x = toZ w16 (ofZ w16 (c .before .before .before .before .before .before .before .before .args .x))
-
-  abbrev n : ℕ
-  n = c .before .before .before .least .result
-
-  abbrev k : ℕ
-  k = c .before .least2 .result
-
-  abbrev w : ℕ
-  w = length (c .before .before .before .before .before .before .before .before .args .out .now)
-
-  head : (i : ℕ) → i < n → getD row 0 0 ≡ getD row (edge (x +ℤ pos i)) 0
-  head = head-at row x w _ _ _ n k (c .before .before .before .before .below .ensures .0) (c .before .before .before .before .before .edge .ensures) (c .before .before .left .ensures) (c .before .before .before .least .ensures) (c .before .least2 .ensures)
-
-  in-row : (i : ℕ) → n ≤ i → i < n + k → c .before .before .before .before .before .edge .result + (i - n) < length row
-  in-row = run-in row x w _ _ _ n k (c .before .before .before .before .below .ensures .0) (c .before .before .before .before .before .edge .ensures) (c .before .before .left .ensures) (c .before .before .before .least .ensures) (c .before .least2 .ensures)
-
-  run : (i : ℕ) → n ≤ i → i < n + k → getD row (c .before .before .before .before .before .edge .result + (i - n)) 0 ≡ getD row (edge (x +ℤ pos i)) 0
-  run = run-at row x w _ _ _ n k (c .before .before .before .before .below .ensures .0) (c .before .before .before .before .before .edge .ensures) (c .before .before .left .ensures) (c .before .before .before .least .ensures) (c .before .least2 .ensures)
-
-  past : (i : ℕ) → n + k ≤ i → i < w → 0 ≡ getD row (edge (x +ℤ pos i)) 0
-  past = past-at row x w _ _ _ n k (c .before .before .before .before .below .ensures .0) (c .before .before .before .before .before .edge .ensures) (c .before .before .left .ensures) (c .before .before .before .least .ensures) (c .before .least2 .ensures)
-
-  short : n + k ≤ w
-  short = omega (arith, c .before .before .before .least .ensures .within, c .before .least2 .ensures .within)
+short :
+    (c : tie.After-sample Inv-loop μ-loop Inv-loop2 μ-loop2 Inv-loop3 μ-loop3) →
+    c .before .before .before .least .result + c .before .least2 .result ≤ length (c .before .before .before .before .before .before .before .before .args .out .now)
+short c = omega (arith, c .before .before .before .least .ensures .within, c .before .least2 .ensures .within)
 
 inside :
     (c : tie.In-loop2 Inv-loop μ-loop Inv-loop2 μ-loop2 Inv-loop3 μ-loop3) →
     let s = c .before .before .before .before in
-    s .before .before .before .before .before .edge .result + (c .before .loop2 .i - s .before .before .before .least .result) < length (row s)
-inside c = in-row (c .before .before .before .before) (c .before .loop2 .i) (c .before .loop2 .inv .1) (c .loop2-test .taken)
+    s .before .before .before .before .before .edge .result + (c .before .loop2 .i - s .before .before .before .least .result) < length (s .before .before .before .before .before .before .before .before .args .row .now)
+inside c = run-in (runs (c .before .before .before .before)) (c .before .loop2 .i) (c .before .loop2 .inv .1) (c .loop2-test .taken)
 
 edge-requires : tie.Need-edge-requires Inv-loop μ-loop Inv-loop2 μ-loop2 Inv-loop3 μ-loop3
 edge-requires c κs = tt
@@ -112,15 +96,15 @@ loop-less c = omega arith
 
 loop-again : tie.Need-loop-again Inv-loop μ-loop Inv-loop2 μ-loop2 Inv-loop3 μ-loop3
 loop-again c =
-    let t = c in
-    (filled-step (t .before .loop .inv .0) (omega (arith, t .before .before .before .before .before .least .ensures .within)) (t .before .before .sample .ensures ∙ head (t .before .before) (t .before .loop .i) (t .loop-test .taken)), omega arith)
+    let l = c .before .loop in
+    let t = c .before .before in
+    (filled-step (l .inv .0) (omega (arith, t .before .before .before .least .ensures .within)) (t .sample .ensures ∙ head-at (runs t) (l .i) (c .loop-test .taken)), omega arith)
 
 loop2-holds : tie.Need-loop2-holds Inv-loop μ-loop Inv-loop2 μ-loop2 Inv-loop3 μ-loop3
 loop2-holds c =
-    let s = c .before .before in
     let l = c .before .loop in
     let e : l .i ≡ c .before .before .before .before .before .least .result = omega (arith, l .inv .1) in
-    (subst (λ (k : ℕ). Filled ℕ 0 (w s) (λ i. getD (row s) (edge (x s +ℤ pos i)) 0) (l .out) k) e (l .inv .0), omega arith, omega arith)
+    (rw e at (l .inv .0), omega arith, omega arith)
 
 sub-out : tie.Need-sub-out Inv-loop μ-loop Inv-loop2 μ-loop2 Inv-loop3 μ-loop3
 sub-out c = c .before .loop2 .inv .1
@@ -151,14 +135,13 @@ loop2-again : tie.Need-loop2-again Inv-loop μ-loop Inv-loop2 μ-loop2 Inv-loop3
 loop2-again c =
     let t = c .before in
     let l = t .before .loop2 in
-    (filled-step (l .inv .0) (omega (arith, short (t .before .before .before .before))) (run (t .before .before .before .before) (l .i) (l .inv .1) (t .loop2-test .taken)), omega arith, omega arith)
+    (filled-step (l .inv .0) (omega (arith, short (t .before .before .before .before))) (run-at (runs (t .before .before .before .before)) (l .i) (l .inv .1) (t .loop2-test .taken)), omega arith, omega arith)
 
 loop3-holds : tie.Need-loop3-holds Inv-loop μ-loop Inv-loop2 μ-loop2 Inv-loop3 μ-loop3
 loop3-holds c =
-    let s = c .before .before .before .before in
     let l = c .before .loop2 in
     let e : l .i ≡ c .before .before .before .before .before .before .before .least .result + c .before .before .before .before .before .least2 .result = omega (arith, l .inv .2) in
-    (subst (λ (k : ℕ). Filled ℕ 0 (w s) (λ i. getD (row s) (edge (x s +ℤ pos i)) 0) (l .out) k) e (l .inv .0), omega arith)
+    (rw e at (l .inv .0), omega arith)
 
 mul-out-4 : tie.Need-mul-out-4 Inv-loop μ-loop Inv-loop2 μ-loop2 Inv-loop3 μ-loop3
 mul-out-4 c = omega (arith, c .before .before .before .before .before .before .before .before .before .before .before .before .before .before .good)
@@ -175,16 +158,14 @@ loop3-less c = omega arith
 loop3-again : tie.Need-loop3-again Inv-loop μ-loop Inv-loop2 μ-loop2 Inv-loop3 μ-loop3
 loop3-again c =
     let l = c .before .loop3 in
-    (filled-step (l .inv .0) (c .loop3-test .taken) (past (c .before .before .before .before .before .before) (l .i) (l .inv .1) (c .loop3-test .taken)), omega arith)
+    (filled-step (l .inv .0) (c .loop3-test .taken) (past-at (runs (c .before .before .before .before .before .before)) (l .i) (l .inv .1) (c .loop3-test .taken)), omega arith)
 
 same-length : tie.Need-same-length Inv-loop μ-loop Inv-loop2 μ-loop2 Inv-loop3 μ-loop3
 same-length c = c .before .loop3 .inv .0 .long
 
 returns : tie.Need-returns Inv-loop μ-loop Inv-loop2 μ-loop2 Inv-loop3 μ-loop3
 returns c =
-    let s = c .before .before .before .before .before .before .before .before .before .before .before .before .before .before in
-    filled-end (c .before .loop3 .inv .0) (c .loop3-test .left)
-    ∙ ap (λ (z : ℤ). tab (length (s .args .out .now)) (λ i. getD (s .args .row .now) (edge (z +ℤ pos i)) 0)) (toZ-ofZ (s .fits .x))
+    rw (toZ-ofZ (c .before .before .before .before .before .before .before .before .before .before .before .before .before .before .fits .x)) at (filled-end (c .before .loop3 .inv .0) (c .loop3-test .left))
 
 pub long-row-spec : {M : Type 1} → statement M
 long-row-spec =

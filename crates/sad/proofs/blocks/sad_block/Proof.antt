@@ -16,65 +16,24 @@ sad-rows-requires c κs =
 returns : tie.Need-returns
 returns c = blocks-four _ _ _ _ (c .before .before .if1 .taken) (c .before .if2 .taken) (c .sad-rows .ensures)
 
-sad-rows-requires-2 : tie.Need-sad-rows-requires-2
-sad-rows-requires-2 c κs = search needs
-
-sad-rows-requires-3 : tie.Need-sad-rows-requires-3
-sad-rows-requires-3 c κs = search needs
-
-sad-rows-requires-4 : tie.Need-sad-rows-requires-4
-sad-rows-requires-4 c κs = search needs
-
-sad-rows-requires-5 : tie.Need-sad-rows-requires-5
-sad-rows-requires-5 c κs = search needs
-
-sad-rows-requires-6 : tie.Need-sad-rows-requires-6
-sad-rows-requires-6 c κs = search needs
-
-sad-rows-requires-7 : tie.Need-sad-rows-requires-7
-sad-rows-requires-7 c κs = search needs
-
-sad-rows-requires-8 : tie.Need-sad-rows-requires-8
-sad-rows-requires-8 c κs = search needs
-
-returns-2 : tie.Need-returns-2
-returns-2 c = blocks-at _ _ _ 64 (c .before .match .keys1) (c .sad-rows2 .ensures)
-
-returns-3 : tie.Need-returns-3
-returns-3 c = blocks-at _ _ _ 32 (c .before .match .keys2) (c .sad-rows3 .ensures)
-
-returns-4 : tie.Need-returns-4
-returns-4 c = blocks-at _ _ _ 16 (c .before .match .keys3) (c .sad-rows4 .ensures)
-
-returns-5 : tie.Need-returns-5
-returns-5 c = blocks-at _ _ _ 8 (c .before .match .keys4) (c .sad-rows5 .ensures)
-
-returns-6 : tie.Need-returns-6
-returns-6 c = blocks-at _ _ _ 4 (c .before .match .keys5) (c .sad-rows6 .ensures)
-
-returns-7 : tie.Need-returns-7
-returns-7 c = blocks-at _ _ _ 2 (c .before .match .keys6) (c .sad-rows7 .ensures)
-
-returns-8 : tie.Need-returns-8
-returns-8 c = search needs
-
+-- a call for each width, and what each returns
 pub sad-block-spec : {M : Type 1} → statement M
 sad-block-spec =
     tie.close
     (tie.spec
     sad-rows-requires
     returns
-    sad-rows-requires-2
-    sad-rows-requires-3
-    sad-rows-requires-4
-    sad-rows-requires-5
-    sad-rows-requires-6
-    sad-rows-requires-7
-    sad-rows-requires-8
-    returns-2
-    returns-3
-    returns-4
-    returns-5
-    returns-6
-    returns-7
-    returns-8)
+    (λ c κs. search needs)
+    (λ c κs. search needs)
+    (λ c κs. search needs)
+    (λ c κs. search needs)
+    (λ c κs. search needs)
+    (λ c κs. search needs)
+    (λ c κs. search needs)
+    (λ c. blocks-at _ _ _ 64 (c .before .match .keys1) (c .sad-rows2 .ensures))
+    (λ c. blocks-at _ _ _ 32 (c .before .match .keys2) (c .sad-rows3 .ensures))
+    (λ c. blocks-at _ _ _ 16 (c .before .match .keys3) (c .sad-rows4 .ensures))
+    (λ c. blocks-at _ _ _ 8 (c .before .match .keys4) (c .sad-rows5 .ensures))
+    (λ c. blocks-at _ _ _ 4 (c .before .match .keys5) (c .sad-rows6 .ensures))
+    (λ c. blocks-at _ _ _ 2 (c .before .match .keys6) (c .sad-rows7 .ensures))
+    (λ c. search needs))

@@ -41,7 +41,9 @@ most c =
     let t = c .before .before .before .before .before in
     let a = t .before .before .args in
     let i = c .before .before .before .before .loop .i in
-    omega (arith, c .gap .ensures, abs-dif-le 65535 (getD (a .a .now) i 0) (getD (a .b .now) i 0) (omega (arith, t .before .shared-slice-known .given i)) (omega (arith, t .shared-slice-known2 .given i)))
+    let p = t .before .shared-slice-known .given i in
+    let q = t .shared-slice-known2 .given i in
+    omega (arith, c .gap .ensures, abs-dif-le 65535 (getD (a .a .now) i 0) (getD (a .b .now) i 0) (omega arith) (omega arith))
 
 add-sum : tie.Need-add-sum Inv-loop μ-loop
 add-sum c =

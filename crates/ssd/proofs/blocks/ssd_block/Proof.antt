@@ -16,65 +16,24 @@ ssd-rows-requires c κs =
 returns : tie.Need-returns
 returns c = blocks-four _ _ _ _ (c .before .before .if1 .taken) (c .before .if2 .taken) (c .ssd-rows .ensures)
 
-ssd-rows-requires-2 : tie.Need-ssd-rows-requires-2
-ssd-rows-requires-2 c κs = search needs
-
-ssd-rows-requires-3 : tie.Need-ssd-rows-requires-3
-ssd-rows-requires-3 c κs = search needs
-
-ssd-rows-requires-4 : tie.Need-ssd-rows-requires-4
-ssd-rows-requires-4 c κs = search needs
-
-ssd-rows-requires-5 : tie.Need-ssd-rows-requires-5
-ssd-rows-requires-5 c κs = search needs
-
-ssd-rows-requires-6 : tie.Need-ssd-rows-requires-6
-ssd-rows-requires-6 c κs = search needs
-
-ssd-rows-requires-7 : tie.Need-ssd-rows-requires-7
-ssd-rows-requires-7 c κs = search needs
-
-ssd-rows-requires-8 : tie.Need-ssd-rows-requires-8
-ssd-rows-requires-8 c κs = search needs
-
-returns-2 : tie.Need-returns-2
-returns-2 c = blocks-at _ _ _ 64 (c .before .match .keys1) (c .ssd-rows2 .ensures)
-
-returns-3 : tie.Need-returns-3
-returns-3 c = blocks-at _ _ _ 32 (c .before .match .keys2) (c .ssd-rows3 .ensures)
-
-returns-4 : tie.Need-returns-4
-returns-4 c = blocks-at _ _ _ 16 (c .before .match .keys3) (c .ssd-rows4 .ensures)
-
-returns-5 : tie.Need-returns-5
-returns-5 c = blocks-at _ _ _ 8 (c .before .match .keys4) (c .ssd-rows5 .ensures)
-
-returns-6 : tie.Need-returns-6
-returns-6 c = blocks-at _ _ _ 4 (c .before .match .keys5) (c .ssd-rows6 .ensures)
-
-returns-7 : tie.Need-returns-7
-returns-7 c = blocks-at _ _ _ 2 (c .before .match .keys6) (c .ssd-rows7 .ensures)
-
-returns-8 : tie.Need-returns-8
-returns-8 c = search needs
-
+-- a call for each width, and what each returns
 pub ssd-block-spec : {M : Type 1} → statement M
 ssd-block-spec =
     tie.close
     (tie.spec
     ssd-rows-requires
     returns
-    ssd-rows-requires-2
-    ssd-rows-requires-3
-    ssd-rows-requires-4
-    ssd-rows-requires-5
-    ssd-rows-requires-6
-    ssd-rows-requires-7
-    ssd-rows-requires-8
-    returns-2
-    returns-3
-    returns-4
-    returns-5
-    returns-6
-    returns-7
-    returns-8)
+    (λ c κs. search needs)
+    (λ c κs. search needs)
+    (λ c κs. search needs)
+    (λ c κs. search needs)
+    (λ c κs. search needs)
+    (λ c κs. search needs)
+    (λ c κs. search needs)
+    (λ c. blocks-at _ _ _ 64 (c .before .match .keys1) (c .ssd-rows2 .ensures))
+    (λ c. blocks-at _ _ _ 32 (c .before .match .keys2) (c .ssd-rows3 .ensures))
+    (λ c. blocks-at _ _ _ 16 (c .before .match .keys3) (c .ssd-rows4 .ensures))
+    (λ c. blocks-at _ _ _ 8 (c .before .match .keys4) (c .ssd-rows5 .ensures))
+    (λ c. blocks-at _ _ _ 4 (c .before .match .keys5) (c .ssd-rows6 .ensures))
+    (λ c. blocks-at _ _ _ 2 (c .before .match .keys6) (c .ssd-rows7 .ensures))
+    (λ c. search needs))
