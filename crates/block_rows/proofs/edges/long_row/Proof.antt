@@ -52,7 +52,8 @@ short c = omega (arith, c .before .before .before .least .ensures .within, c .be
 inside :
     (c : tie.In-loop2 Inv-loop μ-loop Inv-loop2 μ-loop2 Inv-loop3 μ-loop3) →
     let s = c .before .before .before .before in
-    s .before .before .before .before .before .edge .result + (c .before .loop2 .i - s .before .before .before .least .result) < length (s .before .before .before .before .before .before .before .before .args .row .now)
+    let b = s .before .before .before in
+    b .before .before .edge .result + (c .before .loop2 .i - b .least .result) < length (b .before .before .before .before .before .args .row .now)
 inside c = run-in (runs (c .before .before .before .before)) (c .before .loop2 .i) (c .before .loop2 .inv .1) (c .loop2-test .taken)
 
 edge-requires : tie.Need-edge-requires Inv-loop μ-loop Inv-loop2 μ-loop2 Inv-loop3 μ-loop3
@@ -135,7 +136,8 @@ loop2-again : tie.Need-loop2-again Inv-loop μ-loop Inv-loop2 μ-loop2 Inv-loop3
 loop2-again c =
     let t = c .before in
     let l = t .before .loop2 in
-    (filled-step (l .inv .0) (omega (arith, short (t .before .before .before .before))) (run-at (runs (t .before .before .before .before)) (l .i) (l .inv .1) (t .loop2-test .taken)), omega arith, omega arith)
+    let b = t .before .before .before .before in
+    (filled-step (l .inv .0) (omega (arith, short b)) (run-at (runs b) (l .i) (l .inv .1) (t .loop2-test .taken)), omega arith, omega arith)
 
 loop3-holds : tie.Need-loop3-holds Inv-loop μ-loop Inv-loop2 μ-loop2 Inv-loop3 μ-loop3
 loop3-holds c =
@@ -165,7 +167,8 @@ same-length c = c .before .loop3 .inv .0 .long
 
 returns : tie.Need-returns Inv-loop μ-loop Inv-loop2 μ-loop2 Inv-loop3 μ-loop3
 returns c =
-    rw (toZ-ofZ (c .before .before .before .before .before .before .before .before .before .before .before .before .before .before .fits .x)) at (filled-end (c .before .loop3 .inv .0) (c .loop3-test .left))
+    let s = c .before .before .before .before .before .before .before .before .before .before .before .before .before .before in
+    rw (toZ-ofZ (s .fits .x)) at (filled-end (c .before .loop3 .inv .0) (c .loop3-test .left))
 
 pub long-row-spec : {M : Type 1} → statement M
 long-row-spec =
