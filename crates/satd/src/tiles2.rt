@@ -2,9 +2,22 @@
 // Written by tools/tiles.py, from the tiles of 8 by 8.
 // Differs from the Rust in: the tile's differences are handed to evc_had_2x2 by value.
 ghost use mathlib.Core.Path.{_≡_};
+ghost use lib.IntN.{pos, _-ℤ_};
+ghost use lib.ListN.{getD};
+ghost use Rattle.integers.specs.Lists.{tab};
 ghost use Rattle.evc.specs.Tiles.{tileNumber};
-ghost use Rattle.block_rows.specs.Small.{Tested, apartFrom};
+ghost use Rattle.block_rows.specs.Small.{Tested, apartFrom, wrapped};
 
+// One row of a tile's differences.
+fn row(a: &[u16], b: &[u16]) -> [i16; 2]
+    ensures { λ r. ⌜ r ≡ tab 2 (λ i. wrapped (pos (getD (now (a .entry)) i 0) -ℤ pos (getD (now (b .entry)) i 0))) ⌝ }
+{
+    let mut out = [0i16; 2];
+    block_rows::diff_row(a, b, &mut out[..]);
+    out
+}
+
+// The tile's number, from all of them.
 pub(crate) fn number(
     a: &[u16],
     a_at: usize,
@@ -22,9 +35,8 @@ pub(crate) fn number(
         let q = b_at + j * b_stride;
         let p_end = p + 2;
         let q_end = q + 2;
-        let mut row = [0i16; 2];
-        block_rows::diff_row(&a[p..p_end], &b[q..q_end], &mut row[..]);
-        out[j] = row;
+        let r = row(&a[p..p_end], &b[q..q_end]);
+        out[j] = r;
     }
     satd_tiles::evc_had_2x2(out)
 }

@@ -50,41 +50,38 @@ add-p-end c = omega (arith, one c, c .before .before .before .before .good)
 add-q-end : tie.Need-add-q-end Inv-loop μ-loop
 add-q-end c = omega (arith, two c, c .before .before .before .before .good)
 
-mul-diff-row : tie.Need-mul-diff-row Inv-loop μ-loop
-mul-diff-row c = omega (arith, one c, c .before .before .before .before .good)
+mul-row : tie.Need-mul-row Inv-loop μ-loop
+mul-row c = omega (arith, one c, c .before .before .before .before .good)
 
-sub-diff-row : tie.Need-sub-diff-row Inv-loop μ-loop
-sub-diff-row c = omega arith
+sub-row : tie.Need-sub-row Inv-loop μ-loop
+sub-row c = omega arith
 
-part-diff-row-start : tie.Need-part-diff-row-start Inv-loop μ-loop
-part-diff-row-start c = omega arith
+part-row-start : tie.Need-part-row-start Inv-loop μ-loop
+part-row-start c = omega arith
 
-part-diff-row-end : tie.Need-part-diff-row-end Inv-loop μ-loop
-part-diff-row-end c = one c
+part-row-end : tie.Need-part-row-end Inv-loop μ-loop
+part-row-end c = one c
 
-mul-diff-row-2 : tie.Need-mul-diff-row-2 Inv-loop μ-loop
-mul-diff-row-2 c = omega (arith, two (c .before), c .before .before .before .before .before .good)
+mul-row-2 : tie.Need-mul-row-2 Inv-loop μ-loop
+mul-row-2 c = omega (arith, two (c .before), c .before .before .before .before .before .good)
 
-sub-diff-row-2 : tie.Need-sub-diff-row-2 Inv-loop μ-loop
-sub-diff-row-2 c = omega arith
+sub-row-2 : tie.Need-sub-row-2 Inv-loop μ-loop
+sub-row-2 c = omega arith
 
-part-diff-row-start-2 : tie.Need-part-diff-row-start-2 Inv-loop μ-loop
-part-diff-row-start-2 c = omega arith
+part-row-start-2 : tie.Need-part-row-start-2 Inv-loop μ-loop
+part-row-start-2 c = omega arith
 
-part-diff-row-end-2 : tie.Need-part-diff-row-end-2 Inv-loop μ-loop
-part-diff-row-end-2 c = two (c .before)
+part-row-end-2 : tie.Need-part-row-end-2 Inv-loop μ-loop
+part-row-end-2 c = two (c .before)
 
-slice-aggregate-diff-row : tie.Need-slice-aggregate-diff-row Inv-loop μ-loop
-slice-aggregate-diff-row c = refl
-
-diff-row-requires : tie.Need-diff-row-requires Inv-loop μ-loop
-diff-row-requires c κs = tt
+row-requires : tie.Need-row-requires Inv-loop μ-loop
+row-requires c κs = tt
 
 mul-out : tie.Need-mul-out Inv-loop μ-loop
 mul-out c = omega arith
 
 array-set-from-out : tie.Need-array-set-from-out Inv-loop μ-loop
-array-set-from-out c = c .before .before .before .before .before .loop-test .taken
+array-set-from-out c = c .before .before .before .loop-test .taken
 
 add-j : tie.Need-add-j Inv-loop μ-loop
 add-j c = omega arith
@@ -94,14 +91,14 @@ loop-less c = omega arith
 
 loop-again : tie.Need-loop-again Inv-loop μ-loop
 loop-again c =
-    let i = c .before .before .before .before .before in
+    let i = c .before .before .before in
     let l = i .before in
     let s = l .before .before .before in
     let a = s .args in
     let m = i .loop-test .taken in
     filled-step (l .loop .inv) m
     (rows-apart (a .a .now) (a .a-at) (a .a-stride) (a .b .now) (a .b-at) (a .b-stride) 4 m (row-part (a .a .now) (a .a-at) (a .a-stride) (l .loop .j) 4)
-    (row-part (a .b .now) (a .b-at) (a .b-stride) (l .loop .j) 4) (s .pre .small) refl (c .before .diff-row .ensures))
+    (row-part (a .b .now) (a .b-at) (a .b-stride) (l .loop .j) 4) (s .pre .small) refl (c .row .ensures))
 
 evc-had-4x4-requires : tie.Need-evc-had-4x4-requires Inv-loop μ-loop
 evc-had-4x4-requires c κs = tt
@@ -122,16 +119,15 @@ number-spec =
     add-q
     add-p-end
     add-q-end
-    mul-diff-row
-    sub-diff-row
-    part-diff-row-start
-    part-diff-row-end
-    mul-diff-row-2
-    sub-diff-row-2
-    part-diff-row-start-2
-    part-diff-row-end-2
-    slice-aggregate-diff-row
-    diff-row-requires
+    mul-row
+    sub-row
+    part-row-start
+    part-row-end
+    mul-row-2
+    sub-row-2
+    part-row-start-2
+    part-row-end-2
+    row-requires
     mul-out
     array-set-from-out
     add-j
