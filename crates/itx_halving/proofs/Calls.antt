@@ -24,7 +24,10 @@ module _ (logn logl : ℕ) (src dst : List ℤ) (low : 1 ≤ logn) (n : logn ≤
       (inside-no 1 6 logn low n, (le-ltb 6 logl l, (le-ltb _ _ p, (le-ltb _ _ q, tt)))) in
       (z, rw z (written-all (samplesOf logn logl) _ dst (sym b) ∙ rw a))
 
-  pub stage-two-whole : (shift : ℕ) → shift ≤ 31 → (stageTwoNumber (length src) (length dst) logn logl shift ≡ 0) × (itxb1Exit logn logl shift src dst ≡ stageTwo (tm (2 ^ logn)) (2 ^ logn) (2 ^ logl) shift src)
+  pub stage-two-whole :
+      (shift : ℕ) →
+      shift ≤ 31 →
+      (stageTwoNumber (length src) (length dst) logn logl shift ≡ 0) × (itxb1Exit logn logl shift src dst ≡ stageTwo (tm (2 ^ logn)) (2 ^ logn) (2 ^ logl) shift src)
   unfolding stageTwoNumber stageTwoExit
   stage-two-whole shift s =
       let p : samplesOf logn logl ≤ length src = omega arith in

@@ -59,7 +59,12 @@ both m P low high n h = by (decLt n m)
     by (no f) = let i : m + m - suc (m + m - suc n) ≡ n = omega arith in subst P i (high (m + m - suc n) (omega arith))
 
 -- the step from size m to 2m: the even half e, and the shares o of the odd inputs
-module _ (B C : ℕ) (t : List ℤ) (w : ℕ) (x : List ℤ) (l j m : ℕ) (e r : List ℤ) (o : ℕ → ℤ) (g : Mirrored (m + m) (rows t w)) (s : 2 ≤ m) (even : Line B (rows t (w + w)) m (l + l) x j e) (odds : (n : ℕ) → n < m → Odd C (rows t w) m l x j n (o n)) (long : length r ≡ m + m) where
+module _ (B C : ℕ) (t : List ℤ) (w : ℕ) (x : List ℤ) (l j m : ℕ) (e r : List ℤ) (o : ℕ → ℤ)
+    (g : Mirrored (m + m) (rows t w))
+    (s : 2 ≤ m)
+    (even : Line B (rows t (w + w)) m (l + l) x j e)
+    (odds : (n : ℕ) → n < m → Odd C (rows t w) m l x j n (o n))
+    (long : length r ≡ m + m) where
   -- a place and its mirror, exactly
   abbrev pub sums : ℕ → ℤ
   sums n = product (rows t w) (m + m) l x j n

@@ -39,8 +39,15 @@ module _ (c : tie.Then1) where
   abbrev left : ℕ → ℕ → ℤ
   left g = stageOneAt (tm (2 ^ g)) (2 ^ g) l (s .args .src .now)
 
-  done : (k : ℕ) {d : List ℤ} → s .args .log2-size ≡ k → d ≡ written (2 ^ k * l) (left k) (s .args .dst .now) → (true ≡ takesOne 4 6 0 (s .args .log2-size) (s .args .log2-line) (s .args .src .now) (s .args .dst .now)) × (d ≡ doneOne true (s .args .log2-size) (s .args .log2-line) (s .args .src .now) (s .args .dst .now))
-  done k e p = one-did 4 6 0 (s .args .log2-size) (s .args .log2-line) (s .args .src .now) (s .args .dst .now) guard (sized-end left (s .args .dst .now) l (s .args .log2-size) k e p)
+  done :
+      (k : ℕ) {d : List ℤ} →
+      s .args .log2-size ≡ k →
+      d ≡ written (2 ^ k * l) (left k) (s .args .dst .now) →
+      let a = s .args in
+      (true ≡ takesOne 4 6 0 (a .log2-size) (a .log2-line) (a .src .now) (a .dst .now)) × (d ≡ doneOne true (a .log2-size) (a .log2-line) (a .src .now) (a .dst .now))
+  done k e p =
+      one-did 4 6 0 (s .args .log2-size) (s .args .log2-line) (s .args .src .now) (s .args .dst .now) guard
+      (sized-end left (s .args .dst .now) l (s .args .log2-size) k e p)
 
 takes-requires : tie.Need-takes-requires
 takes-requires c κs = search needs

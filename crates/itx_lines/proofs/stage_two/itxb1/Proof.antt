@@ -25,7 +25,9 @@ module _ (c : tie.Then1) where
   abbrev s : tie.Start
   s = c .before .before
 
-  guard : takes 4 6 0 (s .args .log2-size) (s .args .log2-line) (stageTwoNumber (length (s .args .src .now)) (length (s .args .dst .now)) (s .args .log2-size) (s .args .log2-line) (s .args .shift)) ≡ true
+  guard :
+      let a = s .args in
+      takes 4 6 0 (a .log2-size) (a .log2-line) (stageTwoNumber (length (a .src .now)) (length (a .dst .now)) (a .log2-size) (a .log2-line) (a .shift)) ≡ true
   guard = sym (c .before .takes .ensures) ∙ c .if1 .taken
 
   known : Call 4 6 0 (length (s .args .src .now)) (length (s .args .dst .now)) (s .args .log2-size) (s .args .log2-line) (s .args .shift)
@@ -42,8 +44,16 @@ module _ (c : tie.Then1) where
   abbrev left : ℕ → ℕ → ℤ
   left g = stageTwoAt (tm (2 ^ g)) (2 ^ g) l (s .args .shift) (s .args .src .now)
 
-  done : (k : ℕ) {d : List ℤ} → s .args .log2-size ≡ k → d ≡ written (2 ^ k * l) (left k) (s .args .dst .now) → (true ≡ takesTwo 4 6 0 (s .args .log2-size) (s .args .log2-line) (s .args .shift) (s .args .src .now) (s .args .dst .now)) × (d ≡ doneTwo true (s .args .log2-size) (s .args .log2-line) (s .args .shift) (s .args .src .now) (s .args .dst .now))
-  done k e p = two-did 4 6 0 (s .args .log2-size) (s .args .log2-line) (s .args .src .now) (s .args .dst .now) (s .args .shift) guard (sized-end left (s .args .dst .now) l (s .args .log2-size) k e p)
+  done :
+      (k : ℕ) {d : List ℤ} →
+      s .args .log2-size ≡ k →
+      d ≡ written (2 ^ k * l) (left k) (s .args .dst .now) →
+      let a = s .args in
+      (true ≡ takesTwo 4 6 0 (a .log2-size) (a .log2-line) (a .shift) (a .src .now) (a .dst .now))
+      × (d ≡ doneTwo true (a .log2-size) (a .log2-line) (a .shift) (a .src .now) (a .dst .now))
+  done k e p =
+      two-did 4 6 0 (s .args .log2-size) (s .args .log2-line) (s .args .src .now) (s .args .dst .now) (s .args .shift) guard
+      (sized-end left (s .args .dst .now) l (s .args .log2-size) k e p)
 
 -- the rounding number
 sum : (c : tie.After-rounding) → Amount (toZ w64 (ofZ w64 (c .rounding .result))) (s (c .before) .args .shift)
@@ -90,7 +100,9 @@ returns-3 : tie.Need-returns-3
 returns-3 c = let d = c .before .before .before .before .before in done d 6 (omega (arith, known d .size-least, known d .size-most)) (c .before .itx-pb64b1 .ensures)
 
 returns-4 : tie.Need-returns-4
-returns-4 c = let s = c .before .before in two-left 4 6 0 (s .args .log2-size) (s .args .log2-line) (s .args .src .now) (s .args .dst .now) (s .args .shift) (sym (c .before .takes .ensures) ∙ c .if1 .left)
+returns-4 c =
+    let a = c .before .before .args in
+    two-left 4 6 0 (a .log2-size) (a .log2-line) (a .src .now) (a .dst .now) (a .shift) (sym (c .before .takes .ensures) ∙ c .if1 .left)
 
 pub itxb1-spec : {M : Type 1} → statement M
 itxb1-spec =

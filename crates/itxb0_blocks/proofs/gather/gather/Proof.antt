@@ -26,7 +26,10 @@ mul-copy-row-2 : tie.Need-mul-copy-row-2 Inv-loop μ-loop
 mul-copy-row-2 c = omega (arith, write-room (c .before .before .before .pre) (c .before .before .loop .k) (c .before .loop-test .taken))
 
 copy-row-requires : tie.Need-copy-row-requires Inv-loop μ-loop
-copy-row-requires c κs = (omega (arith, read-room (c .before .before .before .pre) (c .before .before .loop .k) (c .before .loop-test .taken)), (write-room (c .before .before .before .pre) (c .before .before .loop .k) (c .before .loop-test .taken), c .before .before .loop .inv .1 .long))
+copy-row-requires c κs =
+    let l = c .before .before in
+    let h = c .before .loop-test .taken in
+    (omega (arith, read-room (l .before .pre) (l .loop .k) h), (write-room (l .before .pre) (l .loop .k) h, l .loop .inv .1 .long))
 
 add-k : tie.Need-add-k Inv-loop μ-loop
 add-k c = omega (arith, c .before .before .loop-test .taken)

@@ -35,7 +35,12 @@ term-requires-4 c κs = there (c .before .before .before .before .pre .0) 3 1 (o
 add-b : tie.Need-add-b
 add-b c = pair-fits w32 narrow tt (c .before .term3 .ensures) (c .term4 .ensures)
 
-halves : (c : tie.After-term4) → let a = c .before .before .before .before .before .args in Halves narrow (a .t .now) (a .w) (a .x .now) (a .l) (a .j) (c .before .before .before .before .line2 .result) (c .before .before .before .term .result) (c .before .before .term2 .result) (c .before .term3 .result) (c .term4 .result)
+halves :
+    (c : tie.After-term4) →
+    let e = c .before .before .before .before in
+    let a = e .before .args in
+    Halves narrow (a .t .now) (a .w) (a .x .now) (a .l) (a .j) (e .line2 .result) (c .before .before .before .term .result)
+    (c .before .before .term2 .result) (c .before .term3 .result) (c .term4 .result)
 halves c = record {
   even = c .before .before .before .before .line2 .ensures;
   first1 = c .before .before .before .term .ensures;

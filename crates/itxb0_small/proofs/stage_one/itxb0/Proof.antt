@@ -33,7 +33,9 @@ module _ (s : tie.Start) where
 
   -- the answer is the guard's
   abbrev Answered : Bool → List ℤ → Type 0
-  Answered r d = (r ≡ takesOne 1 3 0 (s .args .log2-size) (s .args .log2-line) (s .args .src .now) (s .args .dst .now)) × (d ≡ doneOne r (s .args .log2-size) (s .args .log2-line) (s .args .src .now) (s .args .dst .now))
+  Answered r d =
+      let a = s .args in
+      (r ≡ takesOne 1 3 0 (a .log2-size) (a .log2-line) (a .src .now) (a .dst .now)) × (d ≡ doneOne r (a .log2-size) (a .log2-line) (a .src .now) (a .dst .now))
 
   done : (r : Bool) (d : List ℤ) (l : ℕ) → r ≡ answer → r ≡ true → (1 * 2 ^ s .args .log2-line) % 2 ^ 64 ≡ l → Stored d l → Answered r d
   done r d l e t f p =
@@ -71,7 +73,8 @@ returns : tie.Need-returns
 returns c =
     let d = c .before .before .before in
     let s = d .before .before .before .before in
-    done s (d .before .takes .result) _ 2 (d .before .takes .ensures) (d .if3 .taken) (two s (d .before .before .before .if1 .taken)) (two-stored s _ (d .before .before .if2 .taken) (c .before .rows2 .ensures))
+    done s (d .before .takes .result) _ 2 (d .before .takes .ensures) (d .if3 .taken) (two s (d .before .before .before .if1 .taken))
+    (two-stored s _ (d .before .before .if2 .taken) (c .before .rows2 .ensures))
 
 returns-2 : tie.Need-returns-2
 returns-2 c = left (c .before .before .before .before) (c .before .takes .result) (c .before .takes .ensures) (c .if3 .left)

@@ -15,7 +15,9 @@ use Rattle.itxb0_small.proofs.stage_one.lines.Tie as tie
 module _ (s : tie.Start) where
   -- what is asked of l lines of the size 2^g, and shown of them
   room : (g l : ℕ) → s .args .log ≡ g → s .args .l ≡ l → StageRoom (s .args .src .now) (s .args .dst .now) (2 ^ g) l
-  room g l e f = subst (λ (l : ℕ). StageRoom (s .args .src .now) (s .args .dst .now) (2 ^ g) l) f (subst (λ (g : ℕ). StageRoom (s .args .src .now) (s .args .dst .now) (2 ^ g) (s .args .l)) e (s .pre .1))
+  room g l e f =
+      subst (λ (l : ℕ). StageRoom (s .args .src .now) (s .args .dst .now) (2 ^ g) l) f
+      (subst (λ (g : ℕ). StageRoom (s .args .src .now) (s .args .dst .now) (2 ^ g) (s .args .l)) e (s .pre .1))
 
   abbrev Stored : List ℤ → ℕ → ℕ → Type 0
   Stored d g l = d ≡ written (2 ^ g * l) (stageOneAt (tm (2 ^ g)) (2 ^ g) l (s .args .src .now)) (s .args .dst .now)

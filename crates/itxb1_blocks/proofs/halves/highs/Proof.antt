@@ -27,7 +27,10 @@ mul-high-row-2 : tie.Need-mul-high-row-2 Inv-loop μ-loop
 mul-high-row-2 c = omega (arith, write-room (c .before .before .before .pre) (c .before .before .loop .k) (c .before .loop-test .taken))
 
 high-row-requires : tie.Need-high-row-requires Inv-loop μ-loop
-high-row-requires c κs = (omega (arith, read-room (c .before .before .before .pre) (c .before .before .loop .k) (c .before .loop-test .taken)), (write-room (c .before .before .before .pre) (c .before .before .loop .k) (c .before .loop-test .taken), c .before .before .loop .inv .1 .long))
+high-row-requires c κs =
+    let l = c .before .before in
+    let h = c .before .loop-test .taken in
+    (omega (arith, read-room (l .before .pre) (l .loop .k) h), (write-room (l .before .pre) (l .loop .k) h, l .loop .inv .1 .long))
 
 add-k : tie.Need-add-k Inv-loop μ-loop
 add-k c = omega (arith, c .before .before .loop-test .taken)

@@ -20,7 +20,9 @@ module _ (c : tie.Then1) where
   abbrev s : tie.Start
   s = c .before .before
 
-  guard : takes 5 6 4 (s .args .log2-size) (s .args .log2-line) (stageTwoNumber (length (s .args .src .now)) (length (s .args .dst .now)) (s .args .log2-size) (s .args .log2-line) (s .args .shift)) ≡ true
+  guard :
+      let a = s .args in
+      takes 5 6 4 (a .log2-size) (a .log2-line) (stageTwoNumber (length (a .src .now)) (length (a .dst .now)) (a .log2-size) (a .log2-line) (a .shift)) ≡ true
   guard = sym (c .before .takes .ensures) ∙ c .if1 .taken
 
   known : Call 5 6 4 (length (s .args .src .now)) (length (s .args .dst .now)) (s .args .log2-size) (s .args .log2-line) (s .args .shift)

@@ -53,7 +53,9 @@ returns c =
     let z = c .before .before .before .before .before in
     let s = z .before .before in
     next-ext (c .before .store-clipped .ensures)
-    (λ i h. ap (λ (d : List ℤ). clip16 (getD d i (pos 0))) (z .rows .ensures) ∙ ap clip16 (written-at (8 * s .args .m) (kept s) zeros i (pos 0) h) ∙ kept-clipped (s .args .l) (s .args .shift) (s .args .src .now) (s .args .j0 * 8 + i))
+    (λ i h.
+    ap (λ (d : List ℤ). clip16 (getD d i (pos 0))) (z .rows .ensures) ∙ ap clip16 (written-at (8 * s .args .m) (kept s) zeros i (pos 0) h)
+    ∙ kept-clipped (s .args .l) (s .args .shift) (s .args .src .now) (s .args .j0 * 8 + i))
 
 pub group-spec : {M : Type 1} → statement M
 group-spec =

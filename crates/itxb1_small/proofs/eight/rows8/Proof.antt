@@ -49,7 +49,10 @@ loop-holds : tie.Need-loop-holds Inv-loop μ-loop
 loop-holds c =
     let s = c .before in
     let m = c .together .ensures in
-    ((ap (λ (m : ℕ). (s .args .l + 7) / 8 * m) m ∙ s .pre .0 .1, rw m (group-most (s .args .l))), (omega arith, written-count 0 _ (left s) (s .args .dst .now) (s .args .dst .now) (omega arith) (written-none (left s) (s .args .dst .now))))
+    let d = s .args .dst .now in (
+      (ap (λ (m : ℕ). (s .args .l + 7) / 8 * m) m ∙ s .pre .0 .1, rw m (group-most (s .args .l))),
+      (omega arith, written-count 0 _ (left s) d d (omega arith) (written-none (left s) d)),
+    )
 
 mul-group : tie.Need-mul-group Inv-loop μ-loop
 mul-group c =
@@ -65,7 +68,15 @@ group-requires c κs =
     let l = c .before .before .loop in
     let m = c .before .before .before .together .result in (
       (rw (toZ-ofZ (s .fits .add)) (s .pre .0 .0), l .inv .0 .1),
-      (next (l .i) m _ (s .args .l) (c .before .loop-test .taken) (l .inv .0 .0), record { src-room = s .pre .1 .src-room; dst-room = omega (arith, s .pre .1 .dst-room, same (l .i) m _ (s .args .l) (left s) (s .args .dst .now) (l .inv .1 .0) (l .inv .0 .0) (s .pre .1 .dst-room) (l .inv .1 .1)) }),
+      (
+        next (l .i) m _ (s .args .l) (c .before .loop-test .taken) (l .inv .0 .0),
+        record {
+          src-room = s .pre .1 .src-room;
+          dst-room =
+              let e = same (l .i) m _ (s .args .l) (left s) (s .args .dst .now) (l .inv .1 .0) (l .inv .0 .0) (s .pre .1 .dst-room) (l .inv .1 .1) in
+              omega (arith, s .pre .1 .dst-room, e);
+        },
+      ),
     )
 
 add-i : tie.Need-add-i Inv-loop μ-loop

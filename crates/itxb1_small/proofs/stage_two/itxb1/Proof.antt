@@ -28,13 +28,26 @@ module _ (s : tie.Start) where
 
   -- what the stage leaves, and that it was done
   abbrev Stored : List ℤ → Type 0
-  Stored d = d ≡ written (samplesOf (s .args .log2-size) (s .args .log2-line)) (stageTwoAt (tm (2 ^ s .args .log2-size)) (2 ^ s .args .log2-size) (2 ^ s .args .log2-line) (s .args .shift) (s .args .src .now)) (s .args .dst .now)
+  Stored d =
+      let a = s .args in
+      let N = 2 ^ a .log2-size in
+      d ≡ written (samplesOf (a .log2-size) (a .log2-line)) (stageTwoAt (tm N) N (2 ^ a .log2-line) (a .shift) (a .src .now)) (a .dst .now)
 
-  did : (d : List ℤ) → answer ≡ true → Stored d → (true ≡ takesTwo 1 3 0 (s .args .log2-size) (s .args .log2-line) (s .args .shift) (s .args .src .now) (s .args .dst .now)) × (d ≡ doneTwo true (s .args .log2-size) (s .args .log2-line) (s .args .shift) (s .args .src .now) (s .args .dst .now))
+  did :
+      (d : List ℤ) →
+      answer ≡ true →
+      Stored d →
+      let a = s .args in
+      (true ≡ takesTwo 1 3 0 (a .log2-size) (a .log2-line) (a .shift) (a .src .now) (a .dst .now))
+      × (d ≡ doneTwo true (a .log2-size) (a .log2-line) (a .shift) (a .src .now) (a .dst .now))
   unfolding stageTwoExit
   did d g p = (sym g, rw (takes-accepted 1 3 0 (s .args .log2-size) (s .args .log2-line) _ g) p)
 
-  leave : answer ≡ false → (false ≡ takesTwo 1 3 0 (s .args .log2-size) (s .args .log2-line) (s .args .shift) (s .args .src .now) (s .args .dst .now)) × (s .args .dst .now ≡ doneTwo false (s .args .log2-size) (s .args .log2-line) (s .args .shift) (s .args .src .now) (s .args .dst .now))
+  leave :
+      answer ≡ false →
+      let a = s .args in
+      (false ≡ takesTwo 1 3 0 (a .log2-size) (a .log2-line) (a .shift) (a .src .now) (a .dst .now))
+      × (a .dst .now ≡ doneTwo false (a .log2-size) (a .log2-line) (a .shift) (a .src .now) (a .dst .now))
   leave g = two-left 1 3 0 (s .args .log2-size) (s .args .log2-line) (s .args .src .now) (s .args .dst .now) (s .args .shift) g
 
 -- ---- the block of 2 by 2
@@ -47,7 +60,10 @@ two-lines s d a b p = rw (a, b) p
 -- the answer is the guard's
 module _ (s : tie.Start) where
   abbrev Answered : Bool → List ℤ → Type 0
-  Answered r d = (r ≡ takesTwo 1 3 0 (s .args .log2-size) (s .args .log2-line) (s .args .shift) (s .args .src .now) (s .args .dst .now)) × (d ≡ doneTwo r (s .args .log2-size) (s .args .log2-line) (s .args .shift) (s .args .src .now) (s .args .dst .now))
+  Answered r d =
+      let a = s .args in
+      (r ≡ takesTwo 1 3 0 (a .log2-size) (a .log2-line) (a .shift) (a .src .now) (a .dst .now))
+      × (d ≡ doneTwo r (a .log2-size) (a .log2-line) (a .shift) (a .src .now) (a .dst .now))
 
   done : (r : Bool) (d : List ℤ) → r ≡ answer s → r ≡ true → Stored s d → Answered r d
   done r d e t p = subst (λ (r : Bool). Answered r d) (sym t) (did s d (sym e ∙ t) p)
@@ -59,7 +75,11 @@ module _ (s : tie.Start) where
   two-call : s .args .log2-line ≡ 1 → answer s ≡ true → Call 1 3 0 (length (s .args .src .now)) (length (s .args .dst .now)) (s .args .log2-size) 1 (s .args .shift)
   two-call b g = subst (λ (b : ℕ). Call 1 3 0 (length (s .args .src .now)) (length (s .args .dst .now)) (s .args .log2-size) b (s .args .shift)) b (known s g)
 
-  two-stored : (d : List ℤ) → s .args .log2-line ≡ 1 → d ≡ written (samplesOf (s .args .log2-size) 1) (stageTwoAt (tm (2 ^ s .args .log2-size)) (2 ^ s .args .log2-size) (2 ^ 1) (s .args .shift) (s .args .src .now)) (s .args .dst .now) → Stored s d
+  two-stored :
+      (d : List ℤ) →
+      s .args .log2-line ≡ 1 →
+      d ≡ written (samplesOf (s .args .log2-size) 1) (stageTwoAt (tm (2 ^ s .args .log2-size)) (2 ^ s .args .log2-size) (2 ^ 1) (s .args .shift) (s .args .src .now)) (s .args .dst .now) →
+      Stored s d
   two-stored d b p = rw b p
 
 did-2 : (c : tie.Then3) → answer (c .before .before .before .before) ≡ true
@@ -78,8 +98,10 @@ rows2-requires : tie.Need-rows2-requires
 rows2-requires c κs =
     let r = c .before in
     let d = r .before in
-    let s = d .before .before .before .before in
-    (amount (s .args .shift) (known s (did-2 d) .shift-most) (toZ-ofZ (sfits-of (r .rounding .ok)) ∙ r .rounding .ensures), two-rooms s (d .before .before .if2 .taken) (d .before .before .before .if1 .taken) (did-2 d))
+    let s = d .before .before .before .before in (
+      amount (s .args .shift) (known s (did-2 d) .shift-most) (toZ-ofZ (sfits-of (r .rounding .ok)) ∙ r .rounding .ensures),
+      two-rooms s (d .before .before .if2 .taken) (d .before .before .before .if1 .taken) (did-2 d),
+    )
 
 same-length : tie.Need-same-length
 same-length c = search needs

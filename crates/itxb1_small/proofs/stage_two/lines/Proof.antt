@@ -30,12 +30,19 @@ module _ (s : tie.Start) where
 
   -- what is asked of n lines of the size 2^g, and shown of them
   room : (g n : ℕ) → s .args .log ≡ g → l ≡ n → StageRoom (s .args .src .now) (s .args .dst .now) (2 ^ g) n
-  room g n e f = subst (λ (n : ℕ). StageRoom (s .args .src .now) (s .args .dst .now) (2 ^ g) n) f (subst (λ (g : ℕ). StageRoom (s .args .src .now) (s .args .dst .now) (2 ^ g) l) e (takes.call-rooms (s .pre)))
+  room g n e f =
+      subst (λ (n : ℕ). StageRoom (s .args .src .now) (s .args .dst .now) (2 ^ g) n) f
+      (subst (λ (g : ℕ). StageRoom (s .args .src .now) (s .args .dst .now) (2 ^ g) l) e (takes.call-rooms (s .pre)))
 
   abbrev left : ℕ → ℕ → ℕ → ℤ
   left g n = stageTwoAt (tm (2 ^ g)) (2 ^ g) n (s .args .shift) (s .args .src .now)
 
-  stored : (d : List ℤ) (g n : ℕ) → s .args .log ≡ g → l ≡ n → d ≡ written (2 ^ g * n) (left g n) (s .args .dst .now) → d ≡ written (samplesOf (s .args .log) (s .args .log2-line)) (left (s .args .log) (2 ^ s .args .log2-line)) (s .args .dst .now)
+  stored :
+      (d : List ℤ) (g n : ℕ) →
+      s .args .log ≡ g →
+      l ≡ n →
+      d ≡ written (2 ^ g * n) (left g n) (s .args .dst .now) →
+      d ≡ written (samplesOf (s .args .log) (s .args .log2-line)) (left (s .args .log) (2 ^ s .args .log2-line)) (s .args .dst .now)
   stored d g n e f p =
       law.stage-end (left (s .args .log)) (s .args .dst .now) (s .args .log) (s .args .log2-line) l count
       (subst (λ (g : ℕ). d ≡ written (2 ^ g * l) (left g l) (s .args .dst .now)) (sym e) (subst (λ (n : ℕ). d ≡ written (2 ^ g * n) (left g n) (s .args .dst .now)) (sym f) p))

@@ -47,8 +47,10 @@ slice-aggregate-store-i16 c = search needs
 
 store-i16-requires : tie.Need-store-i16-requires Inv-loop μ-loop
 store-i16-requires c κs =
-    let s = turn c .before .before in
-    ((rw (toZ-ofZ (s .fits .add)) (s .pre .0), bounded (held w64 (4 * wide) tt _ (summed c .line4 .ensures)) (omega arith)), (omega arith, upto-room (turn c .before .loop .inv) (turn c .loop-test .taken)))
+    let s = turn c .before .before in (
+      (rw (toZ-ofZ (s .fits .add)) (s .pre .0), bounded (held w64 (4 * wide) tt _ (summed c .line4 .ensures)) (omega arith)),
+      (omega arith, upto-room (turn c .before .loop .inv) (turn c .loop-test .taken)),
+    )
 
 add-j : tie.Need-add-j Inv-loop μ-loop
 add-j c = omega (arith, turn (c .before .before) .loop-test .taken)
@@ -61,7 +63,8 @@ unfolding stageTwoAt
 loop-again c =
     let a = c .before .before in
     upto-more (turn a .before .loop .inv) (turn a .loop-test .taken)
-    (rowed (shifted (turn a .before .before .args .shift)) (built-in-same 2 (omega arith) _ (summed a .before .before .table .ensures)) (held w64 (4 * wide) tt _ (summed a .line4 .ensures)) (c .before .store-i16 .ensures))
+    (rowed (shifted (turn a .before .before .args .shift)) (built-in-same 2 (omega arith) _ (summed a .before .before .table .ensures))
+    (held w64 (4 * wide) tt _ (summed a .line4 .ensures)) (c .before .store-i16 .ensures))
 
 same-length : tie.Need-same-length Inv-loop μ-loop
 same-length c = c .before .loop .inv .long

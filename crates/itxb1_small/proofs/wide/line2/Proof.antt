@@ -29,7 +29,8 @@ add-b c = pair-fits w64 wide tt (c .before .term3 .ensures) (c .term4 .ensures)
 returns : tie.Need-returns
 returns c =
     let a = c .before .before .before .before .args in
-    line-two-is w64 wide tt (rows (a .t .now) (a .w)) (a .l) (a .x .now) (a .j) (c .before .before .before .term .ensures) (c .before .before .term2 .ensures) (c .before .term3 .ensures) (c .term4 .ensures)
+    line-two-is w64 wide tt (rows (a .t .now) (a .w)) (a .l) (a .x .now) (a .j) (c .before .before .before .term .ensures)
+    (c .before .before .term2 .ensures) (c .before .term3 .ensures) (c .term4 .ensures)
 
 pub line2-spec : {M : Type 1} → statement M
 line2-spec =

@@ -33,7 +33,8 @@ add-result c =
 returns : tie.Need-returns
 returns c =
     let a = c .before .before .before .before .args in
-    share-is w64 wide tt (rows (a .t .now) (a .w)) (a .l) (a .x .now) (a .j) (a .n) (c .before .before .before .term .ensures) (c .before .before .term2 .ensures) (c .before .term3 .ensures) (c .term4 .ensures)
+    share-is w64 wide tt (rows (a .t .now) (a .w)) (a .l) (a .x .now) (a .j) (a .n) (c .before .before .before .term .ensures)
+    (c .before .before .term2 .ensures) (c .before .term3 .ensures) (c .term4 .ensures)
 
 pub odd4-spec : {M : Type 1} → statement M
 odd4-spec =
