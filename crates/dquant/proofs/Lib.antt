@@ -1,3 +1,2 @@
 -- Laws of this crate's own loop, and what a caller cites.
-pub mod Fours
 pub mod Calls

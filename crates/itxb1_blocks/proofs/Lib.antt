@@ -2,5 +2,5 @@
 
 -- an input's two halves
 pub mod Parts
+
 -- what a block's sums are
-pub mod Products

@@ -9,7 +9,7 @@ use mir.Val.{toZ, ofZ}
 use mir.Facts.{toZ-ofZ}
 use Rattle.integers.proofs.Grid.{Wrote, wrote-start, wrote-row, wrote-long, row-room}
 use Rattle.evc.specs.Dequantizer.{dequantized}
-use Rattle.dquant.proofs.Fours.{four, fours-end}
+use Rattle.dquant.proofs.area.Fours.{four, fours-end}
 use borrow.Author.Needs.{needs}
 use Rattle.dquant.proofs.area.each.Statement.{statement}
 use Rattle.dquant.proofs.area.each.Tie as tie

@@ -4,7 +4,7 @@ use mathlib.Core.Path.{refl, sym, ap, _∙_}
 use native.Mathlib.Omega.{arith}
 use lib.ListN.{length}
 use Rattle.integers.proofs.Written.{tab-length}
-use Rattle.itxb0_blocks.proofs.Products.{block-stored}
+use Rattle.itxb0_blocks.proofs.stage_one.Products.{block-stored}
 use Rattle.itxb0_blocks.proofs.stage_one.one16.Statement.{statement}
 use Rattle.itxb0_blocks.proofs.stage_one.one16.Tie as tie
 

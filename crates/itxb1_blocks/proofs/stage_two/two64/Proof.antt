@@ -4,7 +4,7 @@ use mathlib.Core.Path.{refl, sym, ap, _∙_}
 use native.Mathlib.Omega.{arith}
 use lib.ListN.{length}
 use Rattle.integers.proofs.Written.{tab-length}
-use Rattle.itxb1_blocks.proofs.Products.{tail-reads, block-joined}
+use Rattle.itxb1_blocks.proofs.stage_two.Products.{tail-reads, block-joined}
 use Rattle.itxb1_blocks.proofs.stage_two.two64.Statement.{statement}
 use Rattle.itxb1_blocks.proofs.stage_two.two64.Tie as tie
 

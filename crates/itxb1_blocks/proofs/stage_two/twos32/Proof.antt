@@ -13,7 +13,7 @@ use Rattle.evc.specs.Stages.{stageTwoAt}
 use Rattle.itx_halving.specs.Lines.{Amount}
 use Rattle.itx_halving.proofs.Lines.{rounding-within, amount}
 use Rattle.itx_halving.proofs.Places.{block-word, BlocksDone, blocks-none, blocks-room, blocks-more, blocks-all}
-use Rattle.itxb1_blocks.proofs.Products.{offsets-are}
+use Rattle.itxb1_blocks.proofs.stage_two.Products.{offsets-are}
 use Rattle.itxb1_blocks.proofs.stage_two.twos32.Statement.{statement}
 use Rattle.itxb1_blocks.proofs.stage_two.twos32.Tie as tie
 

@@ -11,7 +11,7 @@ use Rattle.itx_halving.specs.Line.{rows}
 use Rattle.itx_halving.specs.Straight.{Odd, Line}
 use Rattle.itxb1_small.specs.Sums.{wide}
 use Rattle.itx_halving.proofs.Straight.{half-reach}
-use Rattle.itxb1_small.proofs.Raised.{raised}
+use Rattle.itxb1_small.proofs.wide.Raised.{raised}
 use Rattle.itxb1_small.proofs.wide.line8.Statement.{statement}
 use Rattle.itxb1_small.proofs.wide.line8.Tie as tie
 

@@ -4,7 +4,7 @@ use mathlib.Core.Bool.{false, _||_}
 use Rattle.integers.proofs.Bools.{or-neither}
 use Rattle.evc.specs.Tests.{outside}
 use Rattle.evc.proofs.Tests.{outside-no}
-use Rattle.job_tests.proofs.Laws.{job-size, job-qp, job-shift, job-area, job-none}
+use Rattle.job_tests.proofs.job.Laws.{job-size, job-qp, job-shift, job-area, job-none}
 use Rattle.job_tests.proofs.job.of_job.Statement.{statement}
 use Rattle.job_tests.proofs.job.of_job.Tie as tie
 

@@ -1,6 +1,6 @@
 -- `job_tests::pairs::meet` meets its contract. Assumes nothing.
 use Rattle.integers.proofs.Bools.{and-both}
-use Rattle.job_tests.proofs.Overlaps.{jobs-meet}
+use Rattle.job_tests.proofs.pairs.Overlaps.{jobs-meet}
 use borrow.Author.Needs.{needs}
 use Rattle.job_tests.proofs.pairs.meet.Statement.{statement}
 use Rattle.job_tests.proofs.pairs.meet.Tie as tie

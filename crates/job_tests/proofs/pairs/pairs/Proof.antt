@@ -7,7 +7,7 @@ use Rattle.evc.specs.Answers.{SubReply, accepted}
 use Rattle.evc.specs.Tests.{first}
 use Rattle.evc.specs.SubBlocks.{overlap, orElse}
 use Rattle.job_tests.specs.Pairs.{pairReply}
-use Rattle.job_tests.proofs.Overlaps.{pair-here, pair-rest}
+use Rattle.job_tests.proofs.pairs.Overlaps.{pair-here, pair-rest}
 use borrow.Author.Needs.{needs}
 use Rattle.job_tests.proofs.pairs.pairs.Statement.{statement}
 use Rattle.job_tests.proofs.pairs.pairs.Tie as tie

@@ -1,5 +1,5 @@
 -- `job_tests::pairs::runs_meet` meets its contract. Assumes nothing.
-use Rattle.job_tests.proofs.Overlaps.{first-lower, second-lower}
+use Rattle.job_tests.proofs.pairs.Overlaps.{first-lower, second-lower}
 use borrow.Author.Needs.{needs}
 use Rattle.job_tests.proofs.pairs.runs_meet.Statement.{statement}
 use Rattle.job_tests.proofs.pairs.runs_meet.Tie as tie

@@ -9,7 +9,7 @@ use Rattle.evc.specs.Jobs.{jobNumber}
 use Rattle.evc.specs.SubBlocks.{subReply, orElse}
 use Rattle.evc.proofs.Matches.{is-passed}
 use Rattle.job_tests.specs.Pairs.{pairReply}
-use Rattle.job_tests.proofs.SubTests.{component-here, component-rest, sides, sub-as}
+use Rattle.job_tests.proofs.sub_block.SubTests.{component-here, component-rest, sides, sub-as}
 use borrow.Author.Needs.{needs}
 use Rattle.job_tests.proofs.sub_block.of_sub_block.Statement.{statement}
 use Rattle.job_tests.proofs.sub_block.of_sub_block.Tie as tie

@@ -1,0 +1,2 @@
+-- Laws that only the proofs of `area` cite.
+pub mod Fours

@@ -1,0 +1,2 @@
+-- Laws that only the proofs of `stage_one` cite.
+pub mod Products

@@ -1,0 +1,2 @@
+-- Laws that only the proofs of `wide` cite.
+pub mod Raised

@@ -1,0 +1,2 @@
+-- Laws that only the proofs of `job` cite.
+pub mod Laws

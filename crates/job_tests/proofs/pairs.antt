@@ -1,0 +1,2 @@
+-- Laws that only the proofs of `pairs` cite.
+pub mod Overlaps

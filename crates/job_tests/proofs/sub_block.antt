@@ -1,0 +1,2 @@
+-- Laws that only the proofs of `sub_block` cite.
+pub mod SubTests
