@@ -1,4 +1,5 @@
-// What the crates that compare two blocks row by row share: what they add up, and a row of samples at positions that may be negative.
+// What the crates that compare two blocks row by row share: what they add up, the OR and the differences of two rows, and a row of samples at positions that
+// may be negative.
 mod differences;
 mod edges;
 
