@@ -10,7 +10,7 @@ ghost use Rattle.itx_halving.specs.Lines.{StageRoom};
 ghost use Rattle.itx_halving.specs.Taken.{takesOne, doneOne};
 ghost use Rattle.itx_halving.specs.Blocks.{BlockRoom, Blocked};
 use super::gather::gather;
-use super::store::store_lines;
+use super::store::store_line;
 
 // Lines j0 .. j0 + 15 of l, of each size: gathered, summed, and stored line after line. The sizes are literals, so that a compiler unrolls each by
 // itself.
@@ -22,7 +22,9 @@ fn one16(src: &[i16], dst: &mut [i32], l: usize, j0: usize)
     gather(src, &mut s, 16, 64, l, j0);
     let mut e = [0i32; 256];
     itx_lanes::sums16(&s, &mut e);
-    store_lines(&e, dst, 16, j0);
+    for j in 0..16 {
+        store_line(&e, dst, 16, (j0 + j) * 16, j);
+    }
 }
 
 fn one32(src: &[i16], dst: &mut [i32], l: usize, j0: usize)
@@ -33,7 +35,9 @@ fn one32(src: &[i16], dst: &mut [i32], l: usize, j0: usize)
     gather(src, &mut s, 32, 32, l, j0);
     let mut e = [0i32; 512];
     itx_lanes::sums32(&s, &mut e);
-    store_lines(&e, dst, 32, j0);
+    for j in 0..16 {
+        store_line(&e, dst, 32, (j0 + j) * 32, j);
+    }
 }
 
 fn one64(src: &[i16], dst: &mut [i32], l: usize, j0: usize)
@@ -44,7 +48,9 @@ fn one64(src: &[i16], dst: &mut [i32], l: usize, j0: usize)
     gather(src, &mut s, 64, 16, l, j0);
     let mut e = [0i32; 1024];
     itx_lanes::sums64(&s, &mut e);
-    store_lines(&e, dst, 64, j0);
+    for j in 0..16 {
+        store_line(&e, dst, 64, (j0 + j) * 64, j);
+    }
 }
 
 // All lines, block after block, by the log of the size.
