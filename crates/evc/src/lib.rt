@@ -14,7 +14,7 @@ pub struct Job {
     pub it_shift: u8,
 }
 
-// Every job is made here.
+// Every job is made here, so that code names its fields once.
 pub fn job_of(
     start: usize,
     log2_w: usize,
