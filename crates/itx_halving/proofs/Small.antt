@@ -55,6 +55,14 @@ pub record Halves (A : ℕ) (t : List ℤ) (w : ℕ) (x : List ℤ) (l j : ℕ) 
   pub second1 : Product A (rows t w 1 1) (rows x l 1 j) c
   pub second3 : Product A (rows t w 3 1) (rows x l 3 j) d
 
+-- what holds at the four places of a half
+pub under-four : (P : ℕ → Type 0) → P 0 → P 1 → P 2 → P 3 → (n : ℕ) → n < 4 → P n
+under-four P a b c d zero h = a
+under-four P a b c d (suc zero) h = b
+under-four P a b c d (suc (suc zero)) h = c
+under-four P a b c d (suc (suc (suc zero))) h = d
+under-four P a b c d (suc (suc (suc (suc n)))) h = let z : ⊥ = omega arith in absurd z
+
 also : (a b : Bool) → T a → T b → T (both a b)
 also true b s t = t
 also false b s t = s

@@ -9,6 +9,7 @@ use mir.Syntax.{w64}
 use Rattle.integers.proofs.Expr.{Ex, var, add, sub, loc, Known, small, env, raw, machines, reads, fit}
 use Rattle.itx_halving.specs.Line.{rows}
 use Rattle.itx_halving.specs.Straight.{Odd, Line}
+use Rattle.itx_halving.proofs.Small.{under-four}
 use Rattle.itxb1_small.specs.Sums.{wide}
 use Rattle.itx_halving.proofs.Straight.{half-reach}
 use Rattle.itxb1_small.proofs.wide.Raised.{raised}
@@ -37,24 +38,20 @@ module _ (c : tie.After-odd44) where
   o n = getD (c .before .before .before .odd4 .result ∷ c .before .before .odd42 .result ∷ c .before .odd43 .result ∷ c .odd44 .result ∷ []) n (pos 0)
 
   odds : (n : ℕ) → n < 4 → Odd (4 * wide) (rows (s .args .t .now) (s .args .w)) 4 (s .args .l) (s .args .x .now) (s .args .j) n (o n)
-  odds zero h = c .before .before .before .odd4 .ensures
-  odds (suc zero) h = c .before .before .odd42 .ensures
-  odds (suc (suc zero)) h = c .before .odd43 .ensures
-  odds (suc (suc (suc zero))) h = c .odd44 .ensures
-  odds (suc (suc (suc (suc n)))) h = let z : ⊥ = omega arith in absurd z
+  odds = under-four _ (c .before .before .before .odd4 .ensures) (c .before .before .odd42 .ensures) (c .before .odd43 .ensures) (c .odd44 .ensures)
 
   -- in expressions: first the places of the one, then of the other
+  abbrev half : (n : ℕ) → n < 4 → Known
+  half n h = small w64 (getD e n (pos 0)) (4 * wide) (record { bound = even .small n h }) tt
+
+  abbrev share : (n : ℕ) → n < 4 → Known
+  share n h = small w64 (o n) (4 * wide) (record { bound = odds n h .small }) tt
+
   abbrev known : ℕ → Known
   known =
       env (
-      small w64 (getD e 0 (pos 0)) (4 * wide) (record { bound = even .small 0 (omega arith) }) tt
-      ∷ small w64 (getD e 1 (pos 0)) (4 * wide) (record { bound = even .small 1 (omega arith) }) tt
-      ∷ small w64 (getD e 2 (pos 0)) (4 * wide) (record { bound = even .small 2 (omega arith) }) tt
-      ∷ small w64 (getD e 3 (pos 0)) (4 * wide) (record { bound = even .small 3 (omega arith) }) tt
-      ∷ small w64 (o 0) (4 * wide) (record { bound = odds 0 (omega arith) .small }) tt
-      ∷ small w64 (o 1) (4 * wide) (record { bound = odds 1 (omega arith) .small }) tt
-      ∷ small w64 (o 2) (4 * wide) (record { bound = odds 2 (omega arith) .small }) tt
-      ∷ small w64 (o 3) (4 * wide) (record { bound = odds 3 (omega arith) .small }) tt
+      half 0 (omega arith) ∷ half 1 (omega arith) ∷ half 2 (omega arith) ∷ half 3 (omega arith)
+      ∷ share 0 (omega arith) ∷ share 1 (omega arith) ∷ share 2 (omega arith) ∷ share 3 (omega arith)
       ∷ small w64 (s .args .add) 2147483648 (record { bound = s .pre .1 }) tt
       ∷ []
       )
@@ -73,18 +70,10 @@ module _ (c : tie.After-odd44) where
   out = map (raw (machines known)) (loc w64 (low 0) ∷ loc w64 (low 1) ∷ loc w64 (low 2) ∷ loc w64 (low 3) ∷ loc w64 (high 3) ∷ loc w64 (high 2) ∷ loc w64 (high 1) ∷ loc w64 (high 0) ∷ [])
 
   low-is : (n : ℕ) → n < 4 → getD out n (pos 0) ≡ getD e n (pos 0) +ℤ s .args .add +ℤ o n
-  low-is zero h = reads known (loc w64 (low 0)) tt
-  low-is (suc zero) h = reads known (loc w64 (low 1)) tt
-  low-is (suc (suc zero)) h = reads known (loc w64 (low 2)) tt
-  low-is (suc (suc (suc zero))) h = reads known (loc w64 (low 3)) tt
-  low-is (suc (suc (suc (suc n)))) h = let z : ⊥ = omega arith in absurd z
+  low-is = under-four _ (reads known (loc w64 (low 0)) tt) (reads known (loc w64 (low 1)) tt) (reads known (loc w64 (low 2)) tt) (reads known (loc w64 (low 3)) tt)
 
   high-is : (n : ℕ) → n < 4 → getD out (4 + 4 - suc n) (pos 0) ≡ getD e n (pos 0) +ℤ s .args .add -ℤ o n
-  high-is zero h = reads known (loc w64 (high 0)) tt
-  high-is (suc zero) h = reads known (loc w64 (high 1)) tt
-  high-is (suc (suc zero)) h = reads known (loc w64 (high 2)) tt
-  high-is (suc (suc (suc zero))) h = reads known (loc w64 (high 3)) tt
-  high-is (suc (suc (suc (suc n)))) h = let z : ⊥ = omega arith in absurd z
+  high-is = under-four _ (reads known (loc w64 (high 0)) tt) (reads known (loc w64 (high 1)) tt) (reads known (loc w64 (high 2)) tt) (reads known (loc w64 (high 3)) tt)
 
 add-line4 : tie.Need-add-line4
 add-line4 c = omega (arith, last-row c)
