@@ -14,7 +14,8 @@ use Rattle.evc.specs.Calls.{sadReply, ssdReply, satdReply}
 use Rattle.evc.specs.Numbers.{Numbers}
 
 pub numbers : Numbers
-unfolding pow one ones onesIn sum tab written tm64 scale scaleReply dequantized product stageOneAt stageTwoAt stageOneNumber stageTwoNumber stageOneExit stageTwoExit jobNumber block jobExit sadTotal ssdTotal sign coefficient tileSum tileNumber tileSide satdTotal sadReply ssdReply satdReply
+unfolding pow one ones onesIn sum tab written tm64 scale scaleReply dequantized product stageOneAt stageTwoAt stageOneNumber stageTwoNumber stageOneExit
+    stageTwoExit jobNumber block jobExit sadTotal ssdTotal sign coefficient tileSum tileNumber tileSide satdTotal sadReply ssdReply satdReply
 numbers =
     record {
       n1-63 = refl;

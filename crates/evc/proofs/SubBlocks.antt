@@ -54,7 +54,14 @@ pub sub-by-component : (n : ℕ) (s : SubBlock)
     (orElse (s .u .flag && s .v .flag) «V» (first (overlap (chroma s (s .u)) (chroma s (s .v)) ∷ [])) accepted)))))
 unfolding subReply
 sub-by-component n s =
-    rw (named-first (s .y .flag) Y (lumaTests n s (s .y)), named-first (s .u .flag) U (chromaTests n s (s .u)), named-first (s .v .flag) «V» (chromaTests n s (s .v)), named-first (s .y .flag && s .u .flag) U (overlap (luma s (s .y)) (chroma s (s .u)) ∷ []), named-first (s .y .flag && s .v .flag) «V» (overlap (luma s (s .y)) (chroma s (s .v)) ∷ []), named-last (s .u .flag && s .v .flag) «V» (overlap (chroma s (s .u)) (chroma s (s .v)) ∷ []))
+    rw (
+      named-first (s .y .flag) Y (lumaTests n s (s .y)),
+      named-first (s .u .flag) U (chromaTests n s (s .u)),
+      named-first (s .v .flag) «V» (chromaTests n s (s .v)),
+      named-first (s .y .flag && s .u .flag) U (overlap (luma s (s .y)) (chroma s (s .u)) ∷ []),
+      named-first (s .y .flag && s .v .flag) «V» (overlap (luma s (s .y)) (chroma s (s .v)) ∷ []),
+      named-last (s .u .flag && s .v .flag) «V» (overlap (chroma s (s .u)) (chroma s (s .v)) ∷ []),
+    )
 
 -- ---- an accepted call
 -- where a sub-block is accepted, none of its groups of tests has a broken one
