@@ -42,7 +42,10 @@ module _ (b : List ℤ) (j : Job) (z : jobNumber (length b) j ≡ 0) (n : ℕ) (
   -- y is what the dequantizer leaves of the part
   module _ (y : List ℤ) (by off : ℤ) (eb : by ≡ scale (j .qp)) (eo : off ≡ j .offset) (ey : y ≡ dquantExit (j .«log2_w») (j .«log2_h») by off (j .«dq_shift») part) where
     y-is : y ≡ map (dequantized (scale (j .qp)) (j .offset) (j .«dq_shift»)) part
-    y-is = let a = accepted (length b) j z in ey ∙ rw (eb, eo) (dquant-whole (j .«log2_w») (j .«log2_h») (scale (j .qp)) (j .offset) (j .«dq_shift») part (a .w6) (a .h6) (a .dq31) (part-long ∙ lent-size ∙ e) .1)
+    y-is =
+        let a = accepted (length b) j z in
+        ey ∙ rw (eb, eo)
+        (dquant-whole (j .«log2_w») (j .«log2_h») (scale (j .qp)) (j .offset) (j .«dq_shift») part (a .w6) (a .h6) (a .dq31) (part-long ∙ lent-size ∙ e) .1)
 
     y-long : length y ≡ k
     y-long = ap length y-is ∙ length-map part _ ∙ part-long
