@@ -42,9 +42,6 @@ cast-y c = fit (ρ c) w64 (var 0) tt
 sub-minus : tie.Need-sub-minus
 sub-minus c = fit (ρ c) w64 minus tt
 
-max-i64-requires : tie.Need-max-i64-requires
-max-i64-requires c κs = search needs
-
 -- what `max_i64` gives
 given : (c : tie.After-max-i64) → c .max-i64 .result ≡ pos (natAbs (c .before .args .x))
 given c = c .max-i64 .ensures ∙ ap₂ maxZ (reads (ρ (c .before)) y tt) (reads (ρ (c .before)) (loc w64 minus) tt) ∙ larger (c .before .args .x)
@@ -56,4 +53,4 @@ returns : tie.Need-returns
 returns c = rw (back w64 (c .max-i64 .result) (c .max-i64 .ok), given c)
 
 pub abs-i32-spec : {M : Type 1} → statement M
-abs-i32-spec = tie.close (tie.spec cast-y sub-minus max-i64-requires cast-result returns)
+abs-i32-spec = tie.close (tie.spec cast-y sub-minus (search needs) cast-result returns)

@@ -12,12 +12,6 @@ use Rattle.integers.proofs.Clip.{clip-minmax, clip16-fits}
 use Rattle.integers.proofs.clip16.Statement.{statement}
 use Rattle.integers.proofs.clip16.Tie as tie
 
-max-i64-requires : tie.Need-max-i64-requires
-max-i64-requires c κs = search needs
-
-min-i64-requires : tie.Need-min-i64-requires
-min-i64-requires c κs = search needs
-
 clipped : (c : tie.After-min-i64) → c .min-i64 .result ≡ clip16 (c .before .before .args .x)
 clipped c =
     let f = c .before .before .fits .x in
@@ -35,4 +29,4 @@ returns : tie.Need-returns
 returns c = rw (back w64 (c .min-i64 .result) (c .min-i64 .ok)) (toZ-ofZ (fits c) ∙ clipped c)
 
 pub clip16-spec : {M : Type 1} → statement M
-clip16-spec = tie.close (tie.spec max-i64-requires min-i64-requires cast-result returns)
+clip16-spec = tie.close (tie.spec (search needs) (search needs) cast-result returns)

@@ -18,12 +18,6 @@ use borrow.Author.Needs.{needs}
 use Rattle.job.proofs.evc_itdq_job.Statement.{statement}
 use Rattle.job.proofs.evc_itdq_job.Tie as tie
 
-of-job-requires : tie.Need-of-job-requires
-of-job-requires c κs = search needs
-
-enum-known-r : tie.Need-enum-known-r
-enum-known-r c = search needs
-
 returns : tie.Need-returns
 returns c =
     let m = c .before .before in
@@ -32,9 +26,6 @@ returns c =
       sym (ap verdictNumber (c .before .r .given .1)) ∙ t .ensures,
       sym (refused-unchanged (start .args .coef .now) (start .args .job) (λ z. is-broken (t .result) (m .match .keys1) (t .ensures ∙ z))),
     )
-
-enum-told : tie.Need-enum-told
-enum-told c = search needs
 
 -- ---- where the tests have passed
 module _ (c : tie.After-struct-known) where
@@ -59,9 +50,6 @@ module _ (c : tie.After-struct-known) where
   off : toZ w32 (ofZ w32 (start .args .job .offset)) ≡ start .args .job .offset
   off = search needs
 
-scale-of-requires : tie.Need-scale-of-requires
-scale-of-requires c κs = search needs
-
 add-end : tie.Need-add-end
 add-end c = omega (arith, sum c)
 
@@ -74,27 +62,12 @@ add-end-2 c = omega (arith, inside c, start c .good .0 .1)
 mul-part : tie.Need-mul-part
 mul-part c = omega (arith, inside c, start c .good .0 .1)
 
-sub-part : tie.Need-sub-part
-sub-part c = search needs
-
-part-part-start : tie.Need-part-part-start
-part-part-start c = search needs
-
 part-part-end : tie.Need-part-part-end
 part-part-end c = omega (arith, inside c)
-
-evc-dquant-requires : tie.Need-evc-dquant-requires
-evc-dquant-requires c κs = search needs
 
 -- ---- where the dequantizer has done its part
 abbrev known : tie.After-part2 → tie.After-struct-known
 known c = c .before .before .before .before .before
-
-both-stages-requires : tie.Need-both-stages-requires
-both-stages-requires c κs = search needs
-
-same-length : tie.Need-same-length
-same-length c = search needs
 
 returns-2 : tie.Need-returns-2
 returns-2 c =
@@ -107,19 +80,19 @@ pub evc-itdq-job-spec : {M : Type 1} → statement M
 evc-itdq-job-spec =
     tie.close
     (tie.spec
-    of-job-requires
-    enum-known-r
+    (search needs)
+    (search needs)
     returns
-    enum-told
-    scale-of-requires
+    (search needs)
+    (search needs)
     add-end
     shl-end
     add-end-2
     mul-part
-    sub-part
-    part-part-start
+    (search needs)
+    (search needs)
     part-part-end
-    evc-dquant-requires
-    both-stages-requires
-    same-length
+    (search needs)
+    (search needs)
+    (search needs)
     returns-2)

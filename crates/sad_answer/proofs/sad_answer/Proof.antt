@@ -12,9 +12,6 @@ use Rattle.sad_answer.specs.In32.{in32}
 use Rattle.sad_answer.proofs.sad_answer.Statement.{statement}
 use Rattle.sad_answer.proofs.sad_answer.Tie as tie
 
-bad-depth-requires : tie.Need-bad-depth-requires
-bad-depth-requires c κs = search needs
-
 returns : tie.Need-returns
 returns c = rw (sym (c .before .bad-depth .ensures) ∙ c .if1 .taken)
 
@@ -24,9 +21,6 @@ deep c = sym (c .before .bad-depth .ensures) ∙ c .if1 .left
 
 allowed : (c : tie.Else1) → (8 ≤ c .before .before .args .depth) × (c .before .before .args .depth ≤ 14)
 allowed c = outside-no 8 14 (c .before .before .args .depth) (deep c)
-
-bad-samples-requires : tie.Need-bad-samples-requires
-bad-samples-requires c κs = search needs
 
 returns-2 : tie.Need-returns-2
 returns-2 c = rw (deep (c .before .before), sym (c .before .bad-samples .ensures) ∙ c .if2 .taken)
@@ -63,4 +57,4 @@ returns-4 c =
 
 pub sad-answer-spec : {M : Type 1} → statement M
 sad-answer-spec =
-    tie.close (tie.spec bad-depth-requires returns bad-samples-requires returns-2 sub-sad cast-sad shr-sad returns-3 cast-value returns-4)
+    tie.close (tie.spec (search needs) returns (search needs) returns-2 sub-sad cast-sad shr-sad returns-3 cast-value returns-4)

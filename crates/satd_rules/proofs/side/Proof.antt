@@ -5,15 +5,9 @@ use Rattle.evc.specs.Tiles.{tileSide}
 use Rattle.satd_rules.proofs.side.Statement.{statement}
 use Rattle.satd_rules.proofs.side.Tie as tie
 
-multiples-requires : tie.Need-multiples-requires
-multiples-requires c κs = search needs
-
 returns : tie.Need-returns
 unfolding tileSide
 returns c = rw (sym (c .before .multiples .ensures) ∙ c .if1 .taken)
-
-multiples-requires-2 : tie.Need-multiples-requires-2
-multiples-requires-2 c κs = search needs
 
 returns-2 : tie.Need-returns-2
 unfolding tileSide
@@ -24,4 +18,4 @@ unfolding tileSide
 returns-3 c = rw (sym (c .before .before .before .multiples .ensures) ∙ c .before .before .if1 .left, sym (c .before .multiples2 .ensures) ∙ c .if2 .left)
 
 pub side-spec : {M : Type 1} → statement M
-side-spec = tie.close (tie.spec multiples-requires returns multiples-requires-2 returns-2 returns-3)
+side-spec = tie.close (tie.spec (search needs) returns (search needs) returns-2 returns-3)

@@ -50,12 +50,6 @@ returns : tie.Need-returns
 unfolding scaleReply
 returns c = rw (lt-ltb 63 (c .before .args .qp) (omega arith))
 
-cast-t8 : tie.Need-cast-t8
-cast-t8 c = search needs
-
-shl-t9 : tie.Need-shl-t9
-shl-t9 c = search needs
-
 returns-2 : tie.Need-returns-2
 unfolding scaleReply right
 returns-2 c =
@@ -63,4 +57,4 @@ returns-2 c =
     (ap value (eqZ→eq _ _ (below-at right 64 all-right (c .before .before .before .args .qp) (omega arith))))
 
 pub scale-spec : {M : Type 1} → statement M
-scale-spec = tie.close (tie.spec returns cast-t8 shl-t9 returns-2)
+scale-spec = tie.close (tie.spec returns (search needs) (search needs) returns-2)

@@ -11,15 +11,6 @@ use borrow.Author.Needs.{needs}
 use Rattle.scaling.proofs.scale_of.Statement.{statement}
 use Rattle.scaling.proofs.scale_of.Tie as tie
 
-scale-requires : tie.Need-scale-requires
-scale-requires c κs = search needs
-
-enum-known-known : tie.Need-enum-known-known
-enum-known-known c = search needs
-
-enum-told : tie.Need-enum-told
-enum-told c = search needs
-
 returns : tie.Need-returns
 returns c =
     let v = c .before .known .given .0 .0 in
@@ -32,4 +23,4 @@ returns-2 : tie.Need-returns-2
 returns-2 c = no-value (c .before .before .scale .result) _ (c .before .match .keys2) (c .before .before .scale .ensures)
 
 pub scale-of-spec : {M : Type 1} → statement M
-scale-of-spec = tie.close (tie.spec scale-requires enum-known-known enum-told returns returns-2)
+scale-of-spec = tie.close (tie.spec (search needs) (search needs) (search needs) returns returns-2)

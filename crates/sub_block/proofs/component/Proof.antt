@@ -38,9 +38,6 @@ module _ (c : tie.After-struct-known) where
   off : toZ w32 (ofZ w32 (start .args .job .offset)) ≡ start .args .job .offset
   off = search needs
 
-scale-of-requires : tie.Need-scale-of-requires
-scale-of-requires c κs = search needs
-
 add-end : tie.Need-add-end
 add-end c = omega (arith, sum c)
 
@@ -53,27 +50,12 @@ add-end-2 c = omega (arith, inside c, start c .good)
 mul-part : tie.Need-mul-part
 mul-part c = omega (arith, inside c, start c .good)
 
-sub-part : tie.Need-sub-part
-sub-part c = search needs
-
-part-part-start : tie.Need-part-part-start
-part-part-start c = search needs
-
 part-part-end : tie.Need-part-part-end
 part-part-end c = inside c
-
-evc-dquant-requires : tie.Need-evc-dquant-requires
-evc-dquant-requires c κs = search needs
 
 -- ---- where the dequantizer has done its part
 abbrev known : tie.After-part2 → tie.After-struct-known
 known c = c .before .before .before .before .before
-
-both-stages-requires : tie.Need-both-stages-requires
-both-stages-requires c κs = search needs
-
-same-length : tie.Need-same-length
-same-length c = search needs
 
 returns : tie.Need-returns
 returns c =
@@ -81,23 +63,20 @@ returns c =
     lent-done (start k .args .coef .now) (start k .args .job) (passed k) _ _ _ (by k) (off k) (c .before .before .before .evc-dquant .ensures .1) _ (c .before .both-stages .ensures)
     ∙ flagged-job _ _ _ (k .before .before .if1 .taken)
 
-returns-2 : tie.Need-returns-2
-returns-2 c = search needs
-
 pub component-spec : {M : Type 1} → statement M
 component-spec =
     tie.close
     (tie.spec
-    scale-of-requires
+    (search needs)
     add-end
     shl-end
     add-end-2
     mul-part
-    sub-part
-    part-part-start
+    (search needs)
+    (search needs)
     part-part-end
-    evc-dquant-requires
-    both-stages-requires
-    same-length
+    (search needs)
+    (search needs)
+    (search needs)
     returns
-    returns-2)
+    (search needs))

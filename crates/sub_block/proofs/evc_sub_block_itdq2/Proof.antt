@@ -11,21 +11,12 @@ use borrow.Author.Needs.{needs}
 use Rattle.sub_block.proofs.evc_sub_block_itdq2.Statement.{statement}
 use Rattle.sub_block.proofs.evc_sub_block_itdq2.Tie as tie
 
-of-sub-block-requires : tie.Need-of-sub-block-requires
-of-sub-block-requires c κs = search needs
-
-enum-known-c : tie.Need-enum-known-c
-enum-known-c c = search needs
-
 returns : tie.Need-returns
 returns c =
     let t = c .before .before .before in
     let start = t .before in
     let e = sym (ap subVerdictReading (c .before .c .given .1)) ∙ t .of-sub-block .ensures in
     (e, sym (sub-refused (start .args .call) (start .args .coef .now) _ _ (sym e)))
-
-enum-told : tie.Need-enum-told
-enum-told c = search needs
 
 -- ---- where the call is accepted
 module _ (c : tie.After-enum-told) where
@@ -41,9 +32,6 @@ module _ (c : tie.After-enum-told) where
   passed : AllPassed (length (start .args .coef .now)) call
   passed = all-passed _ _ is-accepted
 
-luma-job-requires : tie.Need-luma-job-requires
-luma-job-requires c κs = search needs
-
 component-requires : tie.Need-component-requires
 component-requires c κs t =
     let k = c .before .before in
@@ -56,25 +44,16 @@ y-done c = c .before .before .before .before
 abbrev u-done : tie.After-chroma-job2 → tie.After-chroma-job
 u-done c = c .before .before .before .before
 
-chroma-job-requires : tie.Need-chroma-job-requires
-chroma-job-requires c κs = search needs
-
 component-requires-2 : tie.Need-component-requires-2
 component-requires-2 c κs t =
     let k = y-done c .before .before in
     search (chroma-passed (call k) (call k .u) (passed k .u) (c .chroma-job .ensures) (c .before .before .coef .given))
-
-chroma-job-requires-2 : tie.Need-chroma-job-requires-2
-chroma-job-requires-2 c κs = search needs
 
 component-requires-3 : tie.Need-component-requires-3
 component-requires-3 c κs t =
     let u = u-done c in
     let k = y-done u .before .before in
     search (chroma-passed (call k) (call k .v) (passed k .v) (c .chroma-job2 .ensures) (c .before .before .coef2 .given ∙ u .before .before .coef .given))
-
-same-length : tie.Need-same-length
-same-length c = search needs
 
 returns-2 : tie.Need-returns-2
 returns-2 c =
@@ -92,15 +71,15 @@ pub evc-sub-block-itdq2-spec : {M : Type 1} → statement M
 evc-sub-block-itdq2-spec =
     tie.close
     (tie.spec
-    of-sub-block-requires
-    enum-known-c
+    (search needs)
+    (search needs)
     returns
-    enum-told
-    luma-job-requires
+    (search needs)
+    (search needs)
     component-requires
-    chroma-job-requires
+    (search needs)
     component-requires-2
-    chroma-job-requires-2
+    (search needs)
     component-requires-3
-    same-length
+    (search needs)
     returns-2)

@@ -41,12 +41,6 @@ at-low c e = sym (ap (λ (x : ℤ). ltZ x (negsuc 32767)) (reads (ρ c) (loc w32
 at-high : (c : tie.Start) {t : Bool} → ltZ (pos 32767) (raw (machines (ρ c)) (loc w32 d)) ≡ t → ltZ (pos 32767) (z c) ≡ t
 at-high c e = sym (ap (ltZ (pos 32767)) (reads (ρ c) (loc w32 d) tt)) ∙ e
 
-cast-d : tie.Need-cast-d
-cast-d c = search needs
-
-cast-d-2 : tie.Need-cast-d-2
-cast-d-2 c = search needs
-
 sub-d : tie.Need-sub-d
 sub-d c = fit (ρ c) w32 d tt
 
@@ -86,4 +80,4 @@ returns-3 c =
 pub minus-spec : {M : Type 1} → statement M
 minus-spec =
     tie.close
-    (tie.spec cast-d cast-d-2 sub-d add-result cast-result sub-result cast-result-2 cast-result-3 returns returns-2 returns-3)
+    (tie.spec (search needs) (search needs) sub-d add-result cast-result sub-result cast-result-2 cast-result-3 returns returns-2 returns-3)

@@ -29,9 +29,6 @@ above c = subst (λ (z : ℤ). pos 0 ≤ℤ z) (reads (ρ (c .before)) (loc w32 
 cast-at : tie.Need-cast-at
 cast-at c = fit (ρ c) w32 (var 0) tt
 
-cast-at-2 : tie.Need-cast-at-2
-cast-at-2 c = search needs
-
 add-at : tie.Need-add-at
 add-at c = fit (ρ c) w32 at tt
 
@@ -46,4 +43,4 @@ returns-2 c =
     ap natAbs (reads (ρ (c .before)) (loc w32 at) tt) ∙ edge-pos (c .before .args .p +ℤ pos (c .before .args .i)) (above c)
 
 pub edge-spec : {M : Type 1} → statement M
-edge-spec = tie.close (tie.spec cast-at cast-at-2 add-at cast-result returns returns-2)
+edge-spec = tie.close (tie.spec cast-at (search needs) add-at cast-result returns returns-2)

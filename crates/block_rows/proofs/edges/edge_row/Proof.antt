@@ -9,23 +9,11 @@ use Rattle.evc.specs.Planes.{edge}
 use Rattle.block_rows.proofs.edges.edge_row.Statement.{statement}
 use Rattle.block_rows.proofs.edges.edge_row.Tie as tie
 
-short-row-requires : tie.Need-short-row-requires
-short-row-requires c κs = search needs
-
-long-row-requires : tie.Need-long-row-requires
-long-row-requires c κs = search needs
-
-same-length : tie.Need-same-length
-same-length c = search needs
-
 returns : tie.Need-returns
 returns c =
     let s = c .before .before .before .before .before .before .before in
     let a = s .args in
     c .before .before .short-row .ensures ∙ ap (λ (z : ℤ). tab (length (a .out .now)) (λ i. getD (a .row .now) (edge (z +ℤ pos i)) 0)) (toZ-ofZ (s .fits .x))
-
-same-length-2 : tie.Need-same-length-2
-same-length-2 c = search needs
 
 returns-2 : tie.Need-returns-2
 returns-2 c =
@@ -34,4 +22,4 @@ returns-2 c =
     c .before .before .long-row .ensures ∙ ap (λ (z : ℤ). tab (length (a .out .now)) (λ i. getD (a .row .now) (edge (z +ℤ pos i)) 0)) (toZ-ofZ (s .fits .x))
 
 pub edge-row-spec : {M : Type 1} → statement M
-edge-row-spec = tie.close (tie.spec short-row-requires long-row-requires same-length returns same-length-2 returns-2)
+edge-row-spec = tie.close (tie.spec (search needs) (search needs) (search needs) returns (search needs) returns-2)

@@ -8,15 +8,6 @@ use Rattle.evc.specs.Answers.{squaredReading, replyNumber, valueOr}
 use Rattle.boundary.proofs.answers.tell_squared.Statement.{statement}
 use Rattle.boundary.proofs.answers.tell_squared.Tie as tie
 
-enum-known-d : tie.Need-enum-known-d
-enum-known-d c = search needs
-
-enum-known-d-2 : tie.Need-enum-known-d-2
-enum-known-d-2 c = search needs
-
-refusal-number-requires : tie.Need-refusal-number-requires
-refusal-number-requires c κs = search needs
-
 returns : tie.Need-returns
 returns c =
     let e = c .before .d .given .1 in
@@ -36,4 +27,4 @@ returns-2 c =
     }
 
 pub tell-squared-spec : {M : Type 1} → statement M
-tell-squared-spec = tie.close (tie.spec enum-known-d enum-known-d-2 refusal-number-requires returns returns-2)
+tell-squared-spec = tie.close (tie.spec (search needs) (search needs) (search needs) returns returns-2)

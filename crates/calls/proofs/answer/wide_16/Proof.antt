@@ -9,8 +9,5 @@ use Rattle.calls.proofs.answer.wide_16.Tie as tie
 cast-result : tie.Need-cast-result
 cast-result c = fit (env (arg w16 (c .args .v) (c .fits .v) ∷ [])) w64 (var 0) tt
 
-returns : tie.Need-returns
-returns c = search needs
-
 pub wide-16-spec : {M : Type 1} → statement M
-wide-16-spec = tie.close (tie.spec cast-result returns)
+wide-16-spec = tie.close (tie.spec cast-result (search needs))

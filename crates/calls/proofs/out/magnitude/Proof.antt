@@ -53,14 +53,8 @@ cast-result c = let f = c .before .fits .v in let g = given c .fits in simp toZ-
 add-result : tie.Need-add-result
 add-result c = let f = c .before .fits .v in let g = given c .fits in simp toZ-ofZ (given c .next)
 
-returns : tie.Need-returns
-returns c = search needs
-
 cast-result-2 : tie.Need-cast-result-2
 cast-result-2 c = let f = c .before .fits .v in simp toZ-ofZ (whole (c .before .args .v) f (simp toZ-ofZ at (c .if1 .left)))
 
-returns-2 : tie.Need-returns-2
-returns-2 c = search needs
-
 pub magnitude-spec : {M : Type 1} → statement M
-magnitude-spec = tie.close (tie.spec sub-less cast-result add-result returns cast-result-2 returns-2)
+magnitude-spec = tie.close (tie.spec sub-less cast-result add-result (search needs) cast-result-2 (search needs))

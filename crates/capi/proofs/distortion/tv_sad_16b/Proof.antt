@@ -5,12 +5,6 @@ use Rattle.capi.proofs.Laws.{told-as}
 use Rattle.capi.proofs.distortion.tv_sad_16b.Statement.{statement}
 use Rattle.capi.proofs.distortion.tv_sad_16b.Tie as tie
 
-evce-sad-16b-requires : tie.Need-evce-sad-16b-requires
-evce-sad-16b-requires c κs = search needs
-
-tell-distortion-requires : tie.Need-tell-distortion-requires
-tell-distortion-requires c κs = search needs
-
 returns : tie.Need-returns
 returns c =
     let fits = c .before .before .before .before .before .fits in
@@ -19,4 +13,4 @@ returns c =
     told-as (simp toZ-ofZ at (c .before .before .evce-sad-16b .ensures)) (c .tell-distortion .ensures)
 
 pub tv-sad-16b-spec : {M : Type 1} → statement M
-tv-sad-16b-spec = tie.close (tie.spec evce-sad-16b-requires tell-distortion-requires returns)
+tv-sad-16b-spec = tie.close (tie.spec (search needs) (search needs) returns)

@@ -4,14 +4,8 @@ use Rattle.capi.proofs.Laws.{told-as}
 use Rattle.capi.proofs.distortion.tv_sad_bi_16i.Statement.{statement}
 use Rattle.capi.proofs.distortion.tv_sad_bi_16i.Tie as tie
 
-evce-sad-bi-16i-requires : tie.Need-evce-sad-bi-16i-requires
-evce-sad-bi-16i-requires c κs = search needs
-
-tell-distortion-requires : tie.Need-tell-distortion-requires
-tell-distortion-requires c κs = search needs
-
 returns : tie.Need-returns
 returns c = told-as (c .before .before .evce-sad-bi-16i .ensures) (c .tell-distortion .ensures)
 
 pub tv-sad-bi-16i-spec : {M : Type 1} → statement M
-tv-sad-bi-16i-spec = tie.close (tie.spec evce-sad-bi-16i-requires tell-distortion-requires returns)
+tv-sad-bi-16i-spec = tie.close (tie.spec (search needs) (search needs) returns)

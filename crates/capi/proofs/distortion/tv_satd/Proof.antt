@@ -4,14 +4,8 @@ use Rattle.capi.proofs.Laws.{told-as}
 use Rattle.capi.proofs.distortion.tv_satd.Statement.{statement}
 use Rattle.capi.proofs.distortion.tv_satd.Tie as tie
 
-evce-satd-16b-requires : tie.Need-evce-satd-16b-requires
-evce-satd-16b-requires c κs = search needs
-
-tell-distortion-requires : tie.Need-tell-distortion-requires
-tell-distortion-requires c κs = search needs
-
 returns : tie.Need-returns
 returns c = told-as (c .before .before .evce-satd-16b .ensures) (c .tell-distortion .ensures)
 
 pub tv-satd-spec : {M : Type 1} → statement M
-tv-satd-spec = tie.close (tie.spec evce-satd-16b-requires tell-distortion-requires returns)
+tv-satd-spec = tie.close (tie.spec (search needs) (search needs) returns)

@@ -5,12 +5,6 @@ use Rattle.capi.proofs.Laws.{told-as}
 use Rattle.capi.proofs.distortion.tv_ssd_16i.Statement.{statement}
 use Rattle.capi.proofs.distortion.tv_ssd_16i.Tie as tie
 
-evce-ssd-16i-requires : tie.Need-evce-ssd-16i-requires
-evce-ssd-16i-requires c κs = search needs
-
-tell-squared-requires : tie.Need-tell-squared-requires
-tell-squared-requires c κs = search needs
-
 returns : tie.Need-returns
 returns c =
     let fits = c .before .before .before .before .before .fits in
@@ -19,4 +13,4 @@ returns c =
     told-as (simp toZ-ofZ at (c .before .before .evce-ssd-16i .ensures)) (c .tell-squared .ensures)
 
 pub tv-ssd-16i-spec : {M : Type 1} → statement M
-tv-ssd-16i-spec = tie.close (tie.spec evce-ssd-16i-requires tell-squared-requires returns)
+tv-ssd-16i-spec = tie.close (tie.spec (search needs) (search needs) returns)

@@ -6,18 +6,6 @@ use Rattle.capi.proofs.Laws.{sub-told-as}
 use Rattle.capi.proofs.sub_blocks.tv_sub_block.Statement.{statement}
 use Rattle.capi.proofs.sub_blocks.tv_sub_block.Tie as tie
 
-sub-block-requires : tie.Need-sub-block-requires
-sub-block-requires c κs = search needs
-
-evc-sub-block-itdq2-requires : tie.Need-evc-sub-block-itdq2-requires
-evc-sub-block-itdq2-requires c κs = search needs
-
-tell-sub-block-requires : tie.Need-tell-sub-block-requires
-tell-sub-block-requires c κs = search needs
-
-same-length : tie.Need-same-length
-same-length c = search needs
-
 returns : tie.Need-returns
 returns c =
     let call = c .before .before .before in
@@ -30,8 +18,8 @@ pub tv-sub-block-spec : {M : Type 1} → statement M
 tv-sub-block-spec =
     tie.close
     (tie.spec
-    sub-block-requires
-    evc-sub-block-itdq2-requires
-    tell-sub-block-requires
-    same-length
+    (search needs)
+    (search needs)
+    (search needs)
+    (search needs)
     returns)

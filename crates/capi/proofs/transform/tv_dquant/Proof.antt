@@ -5,15 +5,6 @@ use mir.Facts.{toZ-ofZ}
 use Rattle.capi.proofs.transform.tv_dquant.Statement.{statement}
 use Rattle.capi.proofs.transform.tv_dquant.Tie as tie
 
-evc-dquant-requires : tie.Need-evc-dquant-requires
-evc-dquant-requires c κs = search needs
-
-answer-number-requires : tie.Need-answer-number-requires
-answer-number-requires c κs = search needs
-
-same-length : tie.Need-same-length
-same-length c = search needs
-
 returns : tie.Need-returns
 returns c =
     let fits = c .before .before .before .before .fits in
@@ -23,4 +14,4 @@ returns c =
     (c .answer-number .ensures ∙ done .0, done .1)
 
 pub tv-dquant-spec : {M : Type 1} → statement M
-tv-dquant-spec = tie.close (tie.spec evc-dquant-requires answer-number-requires same-length returns)
+tv-dquant-spec = tie.close (tie.spec (search needs) (search needs) (search needs) returns)

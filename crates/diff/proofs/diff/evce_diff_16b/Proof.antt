@@ -35,9 +35,6 @@ sized c = sym (c .before .bad-logs .ensures) ∙ c .if1 .left
 deep : (c : tie.Else2) → outside 8 14 (c .before .before .before .before .before .before .args .depth) ≡ false
 deep c = sym (c .before .bad-depth .ensures) ∙ c .if2 .left
 
-bad-logs-requires : tie.Need-bad-logs-requires
-bad-logs-requires c κs = search needs
-
 returns : tie.Need-returns
 returns c =
     let a = c .before .before .before .before .args in
@@ -55,9 +52,6 @@ shl-w c = let a = c .before .before .before .before .args in omega (arith, logs-
 
 shl-h : tie.Need-shl-h
 shl-h c = let a = c .before .before .before .before .args in omega (arith, logs-small (a .log2-w) (a .log2-h) (sized c) .1)
-
-bad-depth-requires : tie.Need-bad-depth-requires
-bad-depth-requires c κs = search needs
 
 returns-2 : tie.Need-returns-2
 returns-2 c =
@@ -81,9 +75,6 @@ mul-n c =
     let k = small (c .before .before) in
     let p = mul-le-mul (k .1 .1) (k .0 .1) in
     omega arith
-
-outside-plane-requires : tie.Need-outside-plane-requires
-outside-plane-requires c κs = search needs
 
 -- what the areas' tests find is what the definition asks
 areas :
@@ -151,9 +142,6 @@ of-blocks-requires : tie.Need-of-blocks-requires
 of-blocks-requires c κs =
     let k = inside (c .before) in (k .0, (outside-no 8 14 _ (deep (c .before .before .before)) .1, k .1))
 
-same-length : tie.Need-same-length
-same-length c = search needs
-
 returns-4 : tie.Need-returns-4
 returns-4 c =
     let e = c .before .before .before in
@@ -172,17 +160,17 @@ pub evce-diff-16b-spec : {M : Type 1} → statement M
 evce-diff-16b-spec =
     tie.close
     (tie.spec
-    bad-logs-requires
+    (search needs)
     returns
     shl-w
     shl-h
-    bad-depth-requires
+    (search needs)
     returns-2
     mul-n
-    outside-plane-requires
+    (search needs)
     returns-3
     mul-of-blocks
     add-of-blocks
     of-blocks-requires
-    same-length
+    (search needs)
     returns-4)

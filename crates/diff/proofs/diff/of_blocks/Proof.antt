@@ -20,44 +20,20 @@ of-four-requires c κs = sides-asked (c .before .match .keys4) refl (c .before .
 of-width-requires-4 : tie.Need-of-width-requires-4
 of-width-requires-4 c κs = sides-asked (c .before .match .keys5) refl (c .before .before .before .before .pre)
 
-of-width-requires-5 : tie.Need-of-width-requires-5
-of-width-requires-5 c κs = search needs
-
-same-length : tie.Need-same-length
-same-length c = search needs
-
 returns : tie.Need-returns
 returns c = sides-left _ _ (c .before .before .before .match .keys1) refl (c .before .of-width .ensures)
-
-same-length-2 : tie.Need-same-length-2
-same-length-2 c = search needs
 
 returns-2 : tie.Need-returns-2
 returns-2 c = sides-left _ _ (c .before .before .before .match .keys2) refl (c .before .of-width2 .ensures)
 
-same-length-3 : tie.Need-same-length-3
-same-length-3 c = search needs
-
 returns-3 : tie.Need-returns-3
 returns-3 c = sides-left _ _ (c .before .before .before .match .keys3) refl (c .before .of-width3 .ensures)
-
-same-length-4 : tie.Need-same-length-4
-same-length-4 c = search needs
 
 returns-4 : tie.Need-returns-4
 returns-4 c = sides-left _ _ (c .before .before .before .match .keys4) refl (c .before .of-four .ensures)
 
-same-length-5 : tie.Need-same-length-5
-same-length-5 c = search needs
-
 returns-5 : tie.Need-returns-5
 returns-5 c = sides-left _ _ (c .before .before .before .match .keys5) refl (c .before .of-width4 .ensures)
-
-same-length-6 : tie.Need-same-length-6
-same-length-6 c = search needs
-
-returns-6 : tie.Need-returns-6
-returns-6 c = search needs
 
 pub of-blocks-spec : {M : Type 1} → statement M
 of-blocks-spec =
@@ -68,16 +44,16 @@ of-blocks-spec =
     of-width-requires-3
     of-four-requires
     of-width-requires-4
-    of-width-requires-5
-    same-length
+    (search needs)
+    (search needs)
     returns
-    same-length-2
+    (search needs)
     returns-2
-    same-length-3
+    (search needs)
     returns-3
-    same-length-4
+    (search needs)
     returns-4
-    same-length-5
+    (search needs)
     returns-5
-    same-length-6
-    returns-6)
+    (search needs)
+    (search needs))

@@ -6,12 +6,6 @@ use Rattle.block_rows.proofs.Tested.{some-marked, none-marked, none-small}
 use Rattle.diff.proofs.diff.of_width.Statement.{statement}
 use Rattle.diff.proofs.diff.of_width.Tie as tie
 
-any-rows-requires : tie.Need-any-rows-requires
-any-rows-requires c κs = search needs
-
-shr-if1 : tie.Need-shr-if1
-shr-if1 c = search needs
-
 returns : tie.Need-returns
 returns c = record { answer = some-marked _ _ _ _ _ _ _ _ _ (c .before .any-rows .ensures) (c .if1 .taken); buffer = refl }
 
@@ -20,9 +14,6 @@ diff-rows-requires c κs =
     let e = c .before in
     let k = e .before .before .before .before .pre in
     (record { blocks = k .0; small = none-small _ _ _ _ _ _ _ _ _ (e .before .any-rows .ensures) (k .1 .0) (e .if1 .left) }, k .1 .1)
-
-same-length : tie.Need-same-length
-same-length c = search needs
 
 returns-2 : tie.Need-returns-2
 unfolding apartFrom
@@ -33,4 +24,4 @@ returns-2 c =
 pub of-width-spec : {M : Type 1} → statement M
 of-width-spec =
     tie.close
-    (tie.spec any-rows-requires shr-if1 returns diff-rows-requires same-length returns-2)
+    (tie.spec (search needs) (search needs) returns diff-rows-requires (search needs) returns-2)

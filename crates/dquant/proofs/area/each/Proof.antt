@@ -21,9 +21,6 @@ Inv-loop area₀ scale offset shift i₀ i-end area i =
 abbrev μ-loop : tie.MeasureT-loop
 μ-loop area₀ scale offset shift i₀ i-end area i = i-end - i
 
-run-requires : tie.Need-run-requires Inv-loop μ-loop
-run-requires c κs = search needs
-
 loop-holds : tie.Need-loop-holds Inv-loop μ-loop
 loop-holds c = wrote-start (omega arith)
 
@@ -64,9 +61,6 @@ loop-again c =
     let l = i .before .loop in
     wrote-row (l .inv) (i .loop-test .taken) _ (four _ (i .before .before .before .args .area .now) (l .area) (l .i) (l .inv) (i .loop-test .taken) _ (c .before .run2 .ensures))
 
-same-length : tie.Need-same-length Inv-loop μ-loop
-same-length c = search needs
-
 returns : tie.Need-returns Inv-loop μ-loop
 returns c =
     let s = c .before .before .before .before .fits .scale in
@@ -90,7 +84,7 @@ each-spec =
     (tie.spec
     Inv-loop
     μ-loop
-    run-requires
+    (search needs)
     loop-holds
     mul-k
     add-run
@@ -102,7 +96,7 @@ each-spec =
     add-i
     loop-less
     loop-again
-    same-length
+    (search needs)
     returns
     same-length-2
     returns-2)

@@ -36,15 +36,6 @@ cast-sum-3 c = fit (ρ c) w64 (var 2) tt
 add-sum : tie.Need-add-sum
 add-sum c = fit (ρ c) w64 sum tt
 
-cast-clip16 : tie.Need-cast-clip16
-cast-clip16 c = search needs
-
-shr-clip16 : tie.Need-shr-clip16
-shr-clip16 c = search needs
-
-clip16-requires : tie.Need-clip16-requires
-clip16-requires c κs = search needs
-
 returns : tie.Need-returns
 unfolding dequantized
 returns c =
@@ -52,4 +43,4 @@ returns c =
     ∙ ap clip16 (reads (ρ (c .before)) (loc w64 (shr (loc w64 sum) (c .before .args .shift))) tt)
 
 pub one-spec : {M : Type 1} → statement M
-one-spec = tie.close (tie.spec cast-sum cast-sum-2 mul-sum cast-sum-3 add-sum cast-clip16 shr-clip16 clip16-requires returns)
+one-spec = tie.close (tie.spec cast-sum cast-sum-2 mul-sum cast-sum-3 add-sum (search needs) (search needs) (search needs) returns)

@@ -70,17 +70,8 @@ returns-3 c =
     let h = rw (samples b) at (c .if3 .taken) in
     refused-at (tests (start b)) 3 _ _ (p .0, (p .1, (le-ltb 31 _ (b .if2 .left), lt-ltb _ _ h)))
 
-slice-relend-prefix-each : tie.Need-slice-relend-prefix-each
-slice-relend-prefix-each c = search needs
-
 slice-aggregate-each : tie.Need-slice-aggregate-each
 slice-aggregate-each c = sym (length-take-le _ _ (omega arith))
-
-each-requires : tie.Need-each-requires
-each-requires c κs = search needs
-
-same-length : tie.Need-same-length
-same-length c = search needs
 
 -- the area's part is mapped, and the area has n samples
 first-mapped : (f : ℤ → ℤ) (l e : List ℤ) (n area : ℕ) → n ≡ area → e ≡ map f (take n l) → e ++ drop n l ≡ map f (take area l) ++ drop area l
@@ -106,8 +97,8 @@ evc-dquant-spec =
     add-n
     shl-n
     returns-3
-    slice-relend-prefix-each
+    (search needs)
     slice-aggregate-each
-    each-requires
-    same-length
+    (search needs)
+    (search needs)
     returns-4)

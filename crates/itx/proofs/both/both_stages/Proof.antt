@@ -7,54 +7,24 @@ use Rattle.itx.proofs.both.Ends.{by-zeros, taken, left}
 use Rattle.itx.proofs.both.both_stages.Statement.{statement}
 use Rattle.itx.proofs.both.both_stages.Tie as tie
 
-array-borrow-prefix-between : tie.Need-array-borrow-prefix-between
-array-borrow-prefix-between c = search needs
-
 slice-aggregate-stages-over : tie.Need-slice-aggregate-stages-over
 slice-aggregate-stages-over c = sym (length-take-le _ _ (c .before .before .if1 .taken))
 
-stages-over-requires : tie.Need-stages-over-requires
-stages-over-requires c κs = search needs
-
-array-borrow-prefix-between-2 : tie.Need-array-borrow-prefix-between-2
-array-borrow-prefix-between-2 c = search needs
-
 slice-aggregate-stages-over-2 : tie.Need-slice-aggregate-stages-over-2
 slice-aggregate-stages-over-2 c = sym (length-take-le _ _ (c .before .before .if2 .taken))
-
-stages-over-requires-2 : tie.Need-stages-over-requires-2
-stages-over-requires-2 c κs = search needs
-
-middle-requires : tie.Need-middle-requires
-middle-requires c κs = search needs
-
-large-requires : tie.Need-large-requires
-large-requires c κs = search needs
-
-same-length : tie.Need-same-length
-same-length c = search needs
 
 returns : tie.Need-returns
 returns c =
     let a = c .before .before .before .before .before .before .args in
     by-zeros (a .log2-w) (a .log2-h) (a .shift) (a .part .now) 16 (omega arith) _ (c .before .before .stages-over .ensures) ∙ taken _ _ _ _ (omega arith)
 
-same-length-2 : tie.Need-same-length-2
-same-length-2 c = search needs
-
 returns-2 : tie.Need-returns-2
 returns-2 c =
     let a = c .before .before .before .before .before .before .before .args in
     by-zeros (a .log2-w) (a .log2-h) (a .shift) (a .part .now) 64 (omega arith) _ (c .before .before .stages-over2 .ensures) ∙ taken _ _ _ _ (omega arith)
 
-same-length-3 : tie.Need-same-length-3
-same-length-3 c = search needs
-
 returns-3 : tie.Need-returns-3
 returns-3 c = c .before .middle .ensures ∙ taken _ _ _ _ (omega arith)
-
-same-length-4 : tie.Need-same-length-4
-same-length-4 c = search needs
 
 returns-4 : tie.Need-returns-4
 returns-4 c = c .before .large .ensures ∙ taken _ _ _ _ (omega arith)
@@ -66,20 +36,20 @@ pub both-stages-spec : {M : Type 1} → statement M
 both-stages-spec =
     tie.close
     (tie.spec
-    array-borrow-prefix-between
+    (search needs)
     slice-aggregate-stages-over
-    stages-over-requires
-    array-borrow-prefix-between-2
+    (search needs)
+    (search needs)
     slice-aggregate-stages-over-2
-    stages-over-requires-2
-    middle-requires
-    large-requires
-    same-length
+    (search needs)
+    (search needs)
+    (search needs)
+    (search needs)
     returns
-    same-length-2
+    (search needs)
     returns-2
-    same-length-3
+    (search needs)
     returns-3
-    same-length-4
+    (search needs)
     returns-4
     returns-5)

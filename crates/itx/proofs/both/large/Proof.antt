@@ -6,17 +6,8 @@ use Rattle.itx.proofs.both.Ends.{by-zeros}
 use Rattle.itx.proofs.both.large.Statement.{statement}
 use Rattle.itx.proofs.both.large.Tie as tie
 
-array-borrow-prefix-between : tie.Need-array-borrow-prefix-between
-array-borrow-prefix-between c = search needs
-
 slice-aggregate-stages-over : tie.Need-slice-aggregate-stages-over
 slice-aggregate-stages-over c = sym (length-take-le _ _ (c .before .before .pre))
-
-stages-over-requires : tie.Need-stages-over-requires
-stages-over-requires c κs = search needs
-
-same-length : tie.Need-same-length
-same-length c = search needs
 
 returns : tie.Need-returns
 returns c =
@@ -26,4 +17,4 @@ returns c =
 pub large-spec : {M : Type 1} → statement M
 large-spec =
     tie.close
-    (tie.spec array-borrow-prefix-between slice-aggregate-stages-over stages-over-requires same-length returns)
+    (tie.spec (search needs) slice-aggregate-stages-over (search needs) (search needs) returns)

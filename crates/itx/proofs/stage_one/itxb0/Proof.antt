@@ -30,21 +30,6 @@ left c =
 large-requires : tie.Need-large-requires
 large-requires c κs = let s = c .before .before in not-small (s .args .log2-size) (s .args .log2-line) _ (c .before .if1 .taken)
 
-by-value-requires : tie.Need-by-value-requires
-by-value-requires c κs = search needs
-
-same-length : tie.Need-same-length
-same-length c = search needs
-
-returns : tie.Need-returns
-returns c = search needs
-
-itxb0-requires : tie.Need-itxb0-requires
-itxb0-requires c κs = search needs
-
-same-length-2 : tie.Need-same-length-2
-same-length-2 c = search needs
-
 returns-2 : tie.Need-returns-2
 returns-2 c =
     let s = c .before .before .before .before .before in
@@ -59,12 +44,6 @@ large-requires-2 c κs =
     subst (λ (d : List ℤ). takesOne 1 3 0 (s .args .log2-size) (s .args .log2-line) (s .args .src .now) d ≡ false) (sym (left e))
     (not-taken-is 1 3 0 (s .args .log2-size) (s .args .log2-line) (number s) (exit s) (k .result) (s .args .dst .now) (k .ensures .0) (k .ensures .1) (e .if2 .left))
 
-by-value-requires-2 : tie.Need-by-value-requires-2
-by-value-requires-2 c κs = search needs
-
-same-length-3 : tie.Need-same-length-3
-same-length-3 c = search needs
-
 returns-3 : tie.Need-returns-3
 returns-3 c =
     let k = c .before .before .large2 in
@@ -78,13 +57,13 @@ itxb0-spec =
     tie.close
     (tie.spec
     large-requires
-    by-value-requires
-    same-length
-    returns
-    itxb0-requires
-    same-length-2
+    (search needs)
+    (search needs)
+    (search needs)
+    (search needs)
+    (search needs)
     returns-2
     large-requires-2
-    by-value-requires-2
-    same-length-3
+    (search needs)
+    (search needs)
     returns-3)

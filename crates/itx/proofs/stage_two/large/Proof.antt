@@ -28,23 +28,11 @@ first-left c =
     let k = c .before .before .itxb1 in
     unchanged 5 6 4 (s .args .log2-size) (s .args .log2-line) (number s) (exit s) (k .result) (s .args .dst .now) (k .ensures .0) (k .ensures .1) (c .if1 .left)
 
-itxb1-requires : tie.Need-itxb1-requires
-itxb1-requires c κs = search needs
-
-same-length : tie.Need-same-length
-same-length c = search needs
-
 returns : tie.Need-returns
 returns c =
     let s = c .before .before .before .before in
     let k = c .before .before .itxb1 in
     did 5 6 4 (s .args .log2-size) (s .args .log2-line) (number s) (exit s) (k .result) (s .args .dst .now) (k .ensures .0) (k .ensures .1) (c .if1 .taken)
-
-itxb1-requires-2 : tie.Need-itxb1-requires-2
-itxb1-requires-2 c κs = search needs
-
-same-length-2 : tie.Need-same-length-2
-same-length-2 c = search needs
 
 returns-2 : tie.Need-returns-2
 returns-2 c =
@@ -53,15 +41,6 @@ returns-2 c =
     let k = c .before .before .itxb12 in
     subst (λ (d : List ℤ). (0 ≡ number s d) × (k .last .1 .0 ≡ exit s d)) (first-left e)
     (did 4 6 0 (s .args .log2-size) (s .args .log2-line) (number s) (exit s) (k .result) _ (k .ensures .0) (k .ensures .1) (c .if2 .taken))
-
-stage-two-requires : tie.Need-stage-two-requires
-stage-two-requires c κs = search needs
-
-same-length-3 : tie.Need-same-length-3
-same-length-3 c = search needs
-
-by-tests-requires : tie.Need-by-tests-requires
-by-tests-requires c κs = search needs
 
 returns-3 : tie.Need-returns-3
 returns-3 c =
@@ -81,13 +60,13 @@ pub large-spec : {M : Type 1} → statement M
 large-spec =
     tie.close
     (tie.spec
-    itxb1-requires
-    same-length
+    (search needs)
+    (search needs)
     returns
-    itxb1-requires-2
-    same-length-2
+    (search needs)
+    (search needs)
     returns-2
-    stage-two-requires
-    by-tests-requires
-    same-length-3
+    (search needs)
+    (search needs)
+    (search needs)
     returns-3)

@@ -16,9 +16,6 @@ use Rattle.itx_halving.proofs.guard.takes.Tie as tie
 returns : tie.Need-returns
 returns c = let a = c .before .args in elsewhere (a .lo) (a .hi) (a .least) (a .log2-size) (a .log2-line) _ (c .if1 .taken)
 
-stage-two-requires : tie.Need-stage-two-requires
-stage-two-requires c κs = search needs
-
 -- ---- within the limits the stage's tests decide
 module _ (c : tie.After-stage-two) where
   abbrev start : tie.Start
@@ -36,16 +33,10 @@ module _ (c : tie.After-stage-two) where
       let p = or-neither (ltb n (a .lo)) (ltb (a .hi) n) (o .0) in
       within (a .lo) (a .hi) (a .least) n l _ (ltb-false n (a .lo) (p .0)) (ltb-false (a .hi) n (p .1)) (ltb-false l (a .least) (o .1)) r e
 
-enum-told : tie.Need-enum-told
-enum-told c = search needs
-
 returns-2 : tie.Need-returns-2
 returns-2 c =
     let k = c .before .before in
     tested k false (sym (never-true _ (λ t. is-broken (k .stage-two .result) (c .before .match .keys1) (k .stage-two .ensures ∙ eqb-true (number k) 0 t))))
-
-enum-told-2 : tie.Need-enum-told-2
-enum-told-2 c = search needs
 
 returns-3 : tie.Need-returns-3
 returns-3 c =
@@ -53,4 +44,4 @@ returns-3 c =
     tested k true (sym (eq-eqb (number k) 0 (sym (k .stage-two .ensures) ∙ is-passed (k .stage-two .result) (c .before .match .keys2))))
 
 pub takes-spec : {M : Type 1} → statement M
-takes-spec = tie.close (tie.spec returns stage-two-requires enum-told returns-2 enum-told-2 returns-3)
+takes-spec = tie.close (tie.spec returns (search needs) (search needs) returns-2 (search needs) returns-3)

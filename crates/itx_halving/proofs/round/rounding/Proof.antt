@@ -21,9 +21,6 @@ all-right : T (below right 32)
 unfolding right
 all-right = tt
 
-cast-result : tie.Need-cast-result
-cast-result c = search needs
-
 shl-result : tie.Need-shl-result
 shl-result c = let h : c .args .shift % 32 < 32 = mod-lt (c .args .shift) (omega arith) in omega arith
 
@@ -32,4 +29,4 @@ unfolding right
 returns c = eqZ→eq _ _ (below-at right 32 all-right (c .args .shift % 32) (mod-lt (c .args .shift) (omega arith)))
 
 pub rounding-spec : {M : Type 1} → statement M
-rounding-spec = tie.close (tie.spec cast-result shl-result returns)
+rounding-spec = tie.close (tie.spec (search needs) shl-result returns)

@@ -4,12 +4,9 @@ use Rattle.evc.specs.Stages.{stageOneNumber, stageTwoNumber}
 use Rattle.itx_halving.proofs.tests.stage_one.Statement.{statement}
 use Rattle.itx_halving.proofs.tests.stage_one.Tie as tie
 
-stage-two-requires : tie.Need-stage-two-requires
-stage-two-requires c κs = search needs
-
 returns : tie.Need-returns
 unfolding stageOneNumber stageTwoNumber
 returns c = c .stage-two .ensures
 
 pub stage-one-spec : {M : Type 1} → statement M
-stage-one-spec = tie.close (tie.spec stage-two-requires returns)
+stage-one-spec = tie.close (tie.spec (search needs) returns)

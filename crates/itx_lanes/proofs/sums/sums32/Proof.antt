@@ -7,17 +7,8 @@ use Rattle.itx_lanes.proofs.Passes.{sums-are}
 use Rattle.itx_lanes.proofs.sums.sums32.Statement.{statement}
 use Rattle.itx_lanes.proofs.sums.sums32.Tie as tie
 
-base-requires : tie.Need-base-requires
-base-requires c κs = search needs
-
-level8-requires : tie.Need-level8-requires
-level8-requires c κs = search needs
-
-level16-requires : tie.Need-level16-requires
-level16-requires c κs = search needs
-
 returns : tie.Need-returns
 returns c = sums-are 32 refl (lit< tt) (lit≤ tt) _ _ (search needs) (c .level16 .ensures)
 
 pub sums32-spec : {M : Type 1} → statement M
-sums32-spec = tie.close (tie.spec base-requires level8-requires level16-requires returns)
+sums32-spec = tie.close (tie.spec (search needs) (search needs) (search needs) returns)

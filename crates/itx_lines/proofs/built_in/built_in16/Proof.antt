@@ -5,22 +5,13 @@ use Rattle.itx_halving.proofs.Instance.{built-in-table, built-in-sums}
 use Rattle.itx_lines.proofs.built_in.built_in16.Statement.{statement}
 use Rattle.itx_lines.proofs.built_in.built_in16.Tie as tie
 
-table-requires : tie.Need-table-requires
-table-requires c κs = search needs
-
-slice-aggregate-line16 : tie.Need-slice-aggregate-line16
-slice-aggregate-line16 c = search needs
-
 line16-requires : tie.Need-line16-requires
 line16-requires c κs =
     let t = c .before .before .before in ((built-in-table 4 (omega arith) _ (t .table .ensures), t .before .pre .0), t .before .pre .1)
-
-same-length : tie.Need-same-length
-same-length c = search needs
 
 returns : tie.Need-returns
 returns c = built-in-sums 4 (omega arith) _ (c .before .before .before .before .before .table .ensures) (c .before .line16 .ensures)
 
 pub built-in16-spec : {M : Type 1} → statement M
 built-in16-spec =
-    tie.close (tie.spec table-requires slice-aggregate-line16 line16-requires same-length returns)
+    tie.close (tie.spec (search needs) (search needs) line16-requires (search needs) returns)

@@ -5,22 +5,13 @@ use Rattle.itx_halving.proofs.Instance.{built-in-table, built-in-sums}
 use Rattle.itx_lines.proofs.built_in.built_in32.Statement.{statement}
 use Rattle.itx_lines.proofs.built_in.built_in32.Tie as tie
 
-table-requires : tie.Need-table-requires
-table-requires c κs = search needs
-
-slice-aggregate-line32 : tie.Need-slice-aggregate-line32
-slice-aggregate-line32 c = search needs
-
 line32-requires : tie.Need-line32-requires
 line32-requires c κs =
     let t = c .before .before .before in ((built-in-table 5 (omega arith) _ (t .table .ensures), t .before .pre .0), t .before .pre .1)
-
-same-length : tie.Need-same-length
-same-length c = search needs
 
 returns : tie.Need-returns
 returns c = built-in-sums 5 (omega arith) _ (c .before .before .before .before .before .table .ensures) (c .before .line32 .ensures)
 
 pub built-in32-spec : {M : Type 1} → statement M
 built-in32-spec =
-    tie.close (tie.spec table-requires slice-aggregate-line32 line32-requires same-length returns)
+    tie.close (tie.spec (search needs) (search needs) line32-requires (search needs) returns)

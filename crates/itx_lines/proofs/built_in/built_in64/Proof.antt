@@ -14,12 +14,6 @@ use Rattle.itx_lines.proofs.built_in.built_in64.Tie as tie
 same : {e x t u : List ℤ} → u ≡ t → Sums e (rows u 64) 2 32 x → Sums e (rows t 64) 2 32 x
 same {e} {x} p s = subst (λ (l : List ℤ). Sums e (rows l 64) 2 32 x) p s
 
-table-requires : tie.Need-table-requires
-table-requires c κs = search needs
-
-slice-aggregate-half64 : tie.Need-slice-aggregate-half64
-slice-aggregate-half64 c = search needs
-
 half64-requires : tie.Need-half64-requires
 half64-requires c κs =
     let t = c .before .before .before in
@@ -44,9 +38,6 @@ steps-requires c κs =
       (omega arith, omega arith),
     )
 
-same-length : tie.Need-same-length
-same-length c = search needs
-
 returns : tie.Need-returns
 returns c = built-in-sums 6 (omega arith) _ (made (c .before .before) .before .pre .0) (all (c .before .steps .ensures .part))
 
@@ -54,9 +45,9 @@ pub built-in64-spec : {M : Type 1} → statement M
 built-in64-spec =
     tie.close
     (tie.spec
-    table-requires
-    slice-aggregate-half64
+    (search needs)
+    (search needs)
     half64-requires
     steps-requires
-    same-length
+    (search needs)
     returns)

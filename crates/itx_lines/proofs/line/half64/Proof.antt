@@ -6,9 +6,6 @@ use Rattle.itx_halving.proofs.Step.{begin, up, all}
 use Rattle.itx_lines.proofs.line.half64.Statement.{statement}
 use Rattle.itx_lines.proofs.line.half64.Tie as tie
 
-start-requires : tie.Need-start-requires
-start-requires c κs = search needs
-
 steps-requires : tie.Need-steps-requires
 steps-requires c κs = (begin 16 (c .before .before .start .ensures) (omega arith), (omega arith, omega arith))
 
@@ -47,7 +44,7 @@ pub half64-spec : {M : Type 1} → statement M
 half64-spec =
     tie.close
     (tie.spec
-    start-requires
+    (search needs)
     steps-requires
     steps-requires-2
     steps-requires-3

@@ -5,9 +5,6 @@ use Rattle.itx_halving.proofs.Step.{begin, up, all}
 use Rattle.itx_lines.proofs.line.line16.Statement.{statement}
 use Rattle.itx_lines.proofs.line.line16.Tie as tie
 
-start-requires : tie.Need-start-requires
-start-requires c κs = search needs
-
 steps-requires : tie.Need-steps-requires
 steps-requires c κs = (begin 4 (c .before .before .start .ensures) (omega arith), (omega arith, omega arith))
 
@@ -20,9 +17,6 @@ steps-requires-3 c κs = (up 1 (c .before .before .steps2 .ensures) (omega arith
 steps-requires-4 : tie.Need-steps-requires-4
 steps-requires-4 c κs = (c .before .before .steps3 .ensures, (omega arith, omega arith))
 
-same-length : tie.Need-same-length
-same-length c = search needs
-
 returns : tie.Need-returns
 returns c = all (c .before .steps4 .ensures .part)
 
@@ -30,10 +24,10 @@ pub line16-spec : {M : Type 1} → statement M
 line16-spec =
     tie.close
     (tie.spec
-    start-requires
+    (search needs)
     steps-requires
     steps-requires-2
     steps-requires-3
     steps-requires-4
-    same-length
+    (search needs)
     returns)

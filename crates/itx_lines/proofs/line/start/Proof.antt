@@ -78,9 +78,6 @@ add-e-2 c = fit (known (c .before .term3 .result) (c .term4 .result) (c .before 
 slice-set-from-e-2 : tie.Need-slice-set-from-e-2
 slice-set-from-e-2 c = simp length-set (omega arith)
 
-same-length : tie.Need-same-length
-same-length c = search needs
-
 returns : tie.Need-returns
 returns c =
     let s = c .before .before .before .before in
@@ -108,5 +105,5 @@ start-spec =
     term-requires-4
     add-e-2
     slice-set-from-e-2
-    same-length
+    (search needs)
     returns)

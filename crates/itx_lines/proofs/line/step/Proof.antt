@@ -90,9 +90,6 @@ slice-set-from-e-2 : tie.Need-slice-set-from-e-2
 slice-set-from-e-2 c =
     let h = inside (s c) (2 * s c .args .m - 1 - s c .args .n) (omega (arith, s c .pre .1)) in simp length-set h
 
-same-length : tie.Need-same-length
-same-length c = search needs
-
 returns : tie.Need-returns
 returns c =
     let m = s c .args .m in
@@ -122,5 +119,5 @@ step-spec =
     sub-t15
     mul-t16
     slice-set-from-e-2
-    same-length
+    (search needs)
     returns)

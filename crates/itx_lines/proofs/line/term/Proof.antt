@@ -21,17 +21,8 @@ known c =
     ∷ []
     )
 
-shared-slice-copy-out-result : tie.Need-shared-slice-copy-out-result
-shared-slice-copy-out-result c = search needs
-
 cast-result : tie.Need-cast-result
 cast-result c = fit (known c) w64 (var 0) tt
-
-mul-result : tie.Need-mul-result
-mul-result c = search needs
-
-shared-slice-copy-out-result-2 : tie.Need-shared-slice-copy-out-result-2
-shared-slice-copy-out-result-2 c = search needs
 
 mul-result-2 : tie.Need-mul-result-2
 mul-result-2 c = fit (known (c .before)) w64 (mul (loc w64 (var 0)) (var 1)) tt
@@ -44,4 +35,4 @@ returns c =
 pub term-spec : {M : Type 1} → statement M
 term-spec =
     tie.close
-    (tie.spec shared-slice-copy-out-result cast-result mul-result shared-slice-copy-out-result-2 mul-result-2 returns)
+    (tie.spec (search needs) cast-result (search needs) (search needs) mul-result-2 returns)

@@ -49,9 +49,6 @@ module _ (c : tie.Then1) where
       one-did 4 6 0 (s .args .log2-size) (s .args .log2-line) (s .args .src .now) (s .args .dst .now) guard
       (sized-end left (s .args .dst .now) l (s .args .log2-size) k e p)
 
-takes-requires : tie.Need-takes-requires
-takes-requires c κs = search needs
-
 shl-l : tie.Need-shl-l
 shl-l c = omega (arith, known c .line-most)
 
@@ -64,20 +61,11 @@ itx-pb32b0-requires c κs = room (c .before .before) 5 (c .before .match .keys2)
 itx-pb64b0-requires : tie.Need-itx-pb64b0-requires
 itx-pb64b0-requires c κs = let d = c .before .before in room d 6 (omega (arith, known d .size-least, known d .size-most))
 
-same-length : tie.Need-same-length
-same-length c = search needs
-
 returns : tie.Need-returns
 returns c = done (c .before .before .before .before) 4 (c .before .before .before .match .keys1) (c .before .itx-pb16b0 .ensures)
 
-same-length-2 : tie.Need-same-length-2
-same-length-2 c = search needs
-
 returns-2 : tie.Need-returns-2
 returns-2 c = done (c .before .before .before .before) 5 (c .before .before .before .match .keys2) (c .before .itx-pb32b0 .ensures)
-
-same-length-3 : tie.Need-same-length-3
-same-length-3 c = search needs
 
 returns-3 : tie.Need-returns-3
 returns-3 c = let d = c .before .before .before .before in done d 6 (omega (arith, known d .size-least, known d .size-most)) (c .before .itx-pb64b0 .ensures)
@@ -89,15 +77,15 @@ pub itxb0-spec : {M : Type 1} → statement M
 itxb0-spec =
     tie.close
     (tie.spec
-    takes-requires
+    (search needs)
     shl-l
     itx-pb16b0-requires
     itx-pb32b0-requires
     itx-pb64b0-requires
-    same-length
+    (search needs)
     returns
-    same-length-2
+    (search needs)
     returns-2
-    same-length-3
+    (search needs)
     returns-3
     returns-4)

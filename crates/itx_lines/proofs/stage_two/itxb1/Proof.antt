@@ -61,12 +61,6 @@ sum c =
     let d = c .before in
     amount (s d .args .shift) (known d .shift-most) (toZ-ofZ (sfits-of (c .rounding .ok)) ∙ c .rounding .ensures)
 
-takes-requires : tie.Need-takes-requires
-takes-requires c κs = search needs
-
-rounding-requires : tie.Need-rounding-requires
-rounding-requires c κs = search needs
-
 shl-l : tie.Need-shl-l
 shl-l c = omega (arith, known (c .before) .line-most)
 
@@ -81,20 +75,11 @@ itx-pb64b1-requires c κs =
     let d = c .before .before in
     let k = known (d .before) in (sum d, room (d .before) 6 (omega (arith, k .size-least, k .size-most)))
 
-same-length : tie.Need-same-length
-same-length c = search needs
-
 returns : tie.Need-returns
 returns c = done (c .before .before .before .before .before) 4 (c .before .before .before .match .keys1) (c .before .itx-pb16b1 .ensures)
 
-same-length-2 : tie.Need-same-length-2
-same-length-2 c = search needs
-
 returns-2 : tie.Need-returns-2
 returns-2 c = done (c .before .before .before .before .before) 5 (c .before .before .before .match .keys2) (c .before .itx-pb32b1 .ensures)
-
-same-length-3 : tie.Need-same-length-3
-same-length-3 c = search needs
 
 returns-3 : tie.Need-returns-3
 returns-3 c = let d = c .before .before .before .before .before in done d 6 (omega (arith, known d .size-least, known d .size-most)) (c .before .itx-pb64b1 .ensures)
@@ -108,16 +93,16 @@ pub itxb1-spec : {M : Type 1} → statement M
 itxb1-spec =
     tie.close
     (tie.spec
-    takes-requires
-    rounding-requires
+    (search needs)
+    (search needs)
     shl-l
     itx-pb16b1-requires
     itx-pb32b1-requires
     itx-pb64b1-requires
-    same-length
+    (search needs)
     returns
-    same-length-2
+    (search needs)
     returns-2
-    same-length-3
+    (search needs)
     returns-3
     returns-4)

@@ -26,15 +26,6 @@ known s =
 add-clip16 : tie.Need-add-clip16
 add-clip16 c = fit (known c) w64 (add (var 0) (var 1)) tt
 
-cast-clip16 : tie.Need-cast-clip16
-cast-clip16 c = search needs
-
-shr-clip16 : tie.Need-shr-clip16
-shr-clip16 c = search needs
-
-clip16-requires : tie.Need-clip16-requires
-clip16-requires c κs = search needs
-
 returns : tie.Need-returns
 returns c =
     let s = c .before in
@@ -43,4 +34,4 @@ returns c =
     ∙ ap (λ (y : ℤ). clip16 (shrZ (s .args .v +ℤ y) (2 ^ s .args .shift))) (s .pre .0 .is)
 
 pub rounded-spec : {M : Type 1} → statement M
-rounded-spec = tie.close (tie.spec add-clip16 cast-clip16 shr-clip16 clip16-requires returns)
+rounded-spec = tie.close (tie.spec add-clip16 (search needs) (search needs) (search needs) returns)

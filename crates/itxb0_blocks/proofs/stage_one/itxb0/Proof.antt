@@ -22,17 +22,11 @@ module _ (c : tie.Then1) where
   known : Call 4 6 4 (length (s .args .src .now)) (length (s .args .dst .now)) (s .args .log2-size) (s .args .log2-line) 0
   known = call guard
 
-takes-requires : tie.Need-takes-requires
-takes-requires c κs = search needs
-
 shl-ones : tie.Need-shl-ones
 shl-ones c = omega (arith, known (c .before) .line-most)
 
 ones-requires : tie.Need-ones-requires
 ones-requires c κs = let w = known (c .before) in ((w .size-least, w .size-most), (call-rooms w, blocks w))
-
-same-length : tie.Need-same-length
-same-length c = search needs
 
 returns : tie.Need-returns
 returns c =
@@ -48,9 +42,9 @@ pub itxb0-spec : {M : Type 1} → statement M
 itxb0-spec =
     tie.close
     (tie.spec
-    takes-requires
+    (search needs)
     shl-ones
     ones-requires
-    same-length
+    (search needs)
     returns
     returns-2)

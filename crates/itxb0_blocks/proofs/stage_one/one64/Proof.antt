@@ -21,9 +21,6 @@ abbrev μ-loop : tie.MeasureT-loop
 gather-requires : tie.Need-gather-requires Inv-loop μ-loop
 gather-requires c κs = let g = c .before .pre in record { long = refl; rows = refl; apart = omega arith; among = g .among; src-room = g .src-room }
 
-sums64-requires : tie.Need-sums64-requires Inv-loop μ-loop
-sums64-requires c κs = search needs
-
 loop-holds : tie.Need-loop-holds Inv-loop μ-loop
 loop-holds c = lanes-none (omega arith) (c .before .before .before .before .before .pre .dst-room)
 
@@ -69,7 +66,7 @@ one64-spec =
     Inv-loop
     μ-loop
     gather-requires
-    sums64-requires
+    (search needs)
     loop-holds
     slice-aggregate-store-line
     add-store-line

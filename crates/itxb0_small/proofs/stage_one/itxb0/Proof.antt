@@ -58,16 +58,10 @@ two-rooms s a b g = rw a at (lines-rooms s 2 (two s b) g)
 two-stored : (s : tie.Start) (d : List ℤ) → s .args .log2-size ≡ 1 → d ≡ written 4 (stageOneAt (tm 2) 2 2 (s .args .src .now)) (s .args .dst .now) → Stored s d 2
 two-stored s d a p = rw a p
 
-takes-requires : tie.Need-takes-requires
-takes-requires c κs = search needs
-
 rows2-requires : tie.Need-rows2-requires
 rows2-requires c κs =
     let d = c .before in
     two-rooms (d .before .before .before .before) (d .before .before .if2 .taken) (d .before .before .before .if1 .taken) (sym (d .before .takes .ensures) ∙ d .if3 .taken)
-
-same-length : tie.Need-same-length
-same-length c = search needs
 
 returns : tie.Need-returns
 returns c =
@@ -80,9 +74,6 @@ returns-2 : tie.Need-returns-2
 returns-2 c = left (c .before .before .before .before) (c .before .takes .result) (c .before .takes .ensures) (c .if3 .left)
 
 -- ---- the others
-takes-requires-2 : tie.Need-takes-requires-2
-takes-requires-2 c κs = search needs
-
 lines-requires : tie.Need-lines-requires
 lines-requires c κs =
     let d = c .before .before in
@@ -102,18 +93,12 @@ lines-requires-2 c κs =
     let w = known s (sym (d .before .takes2 .ensures) ∙ d .if4 .taken) in
     ((w .size-least, w .size-most), call-rooms w)
 
-same-length-2 : tie.Need-same-length-2
-same-length-2 c = search needs
-
 returns-3 : tie.Need-returns-3
 returns-3 c =
     let t = c .before .before .before in
     let d = t .before in
     let s = d .before .before .before in
     done s (d .before .takes2 .result) _ 2 (d .before .takes2 .ensures) (d .if4 .taken) (two s (t .if5 .taken)) (c .before .lines .ensures)
-
-same-length-3 : tie.Need-same-length-3
-same-length-3 c = search needs
 
 returns-4 : tie.Need-returns-4
 returns-4 c =
@@ -127,17 +112,17 @@ pub itxb0-spec : {M : Type 1} → statement M
 itxb0-spec =
     tie.close
     (tie.spec
-    takes-requires
+    (search needs)
     rows2-requires
-    same-length
+    (search needs)
     returns
     returns-2
-    takes-requires-2
+    (search needs)
     lines-requires
     shl-lines
     lines-requires-2
-    same-length-2
+    (search needs)
     returns-3
-    same-length-3
+    (search needs)
     returns-4
     returns-5)

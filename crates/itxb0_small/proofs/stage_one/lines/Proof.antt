@@ -37,26 +37,14 @@ rows4-requires-2 c κs = room (c .before .before .before) 2 (c .before .before .
 rows8-requires : tie.Need-rows8-requires
 rows8-requires c κs = let s = c .before .before in room s 3 (s .args .l) (omega (arith, s .pre .0 .0, s .pre .0 .1)) refl
 
-same-length : tie.Need-same-length
-same-length c = search needs
-
 returns : tie.Need-returns
 returns c = let s = c .before .before .before .before in stored s _ 1 (s .args .l) (c .before .before .before .match .keys1) refl (c .before .rows2 .ensures)
-
-same-length-2 : tie.Need-same-length-2
-same-length-2 c = search needs
 
 returns-2 : tie.Need-returns-2
 returns-2 c = let s = c .before .before .before .before .before in stored s _ 2 4 (c .before .before .before .before .match .keys2) (c .before .before .before .if1 .taken) (c .before .rows4 .ensures)
 
-same-length-3 : tie.Need-same-length-3
-same-length-3 c = search needs
-
 returns-3 : tie.Need-returns-3
 returns-3 c = let s = c .before .before .before .before .before in stored s _ 2 (s .args .l) (c .before .before .before .before .match .keys2) refl (c .before .rows42 .ensures)
-
-same-length-4 : tie.Need-same-length-4
-same-length-4 c = search needs
 
 returns-4 : tie.Need-returns-4
 returns-4 c = let s = c .before .before .before .before in stored s _ 3 (s .args .l) (omega (arith, s .pre .0 .0, s .pre .0 .1)) refl (c .before .rows8 .ensures)
@@ -69,11 +57,11 @@ lines-spec =
     rows4-requires
     rows4-requires-2
     rows8-requires
-    same-length
+    (search needs)
     returns
-    same-length-2
+    (search needs)
     returns-2
-    same-length-3
+    (search needs)
     returns-3
-    same-length-4
+    (search needs)
     returns-4)

@@ -27,18 +27,9 @@ turn c = summed c .before .before .before
 loop-holds : tie.Need-loop-holds Inv-loop μ-loop
 loop-holds c = upto-none (c .pre .dst-room)
 
-table-requires : tie.Need-table-requires Inv-loop μ-loop
-table-requires c κs = search needs
-
-slice-aggregate-line2 : tie.Need-slice-aggregate-line2 Inv-loop μ-loop
-slice-aggregate-line2 c = search needs
-
 line2-requires : tie.Need-line2-requires Inv-loop μ-loop
 line2-requires c κs =
     let h = c .before .before in reach-at 2048 2 _ _ (built-in-table 1 (omega arith) _ (c .before .table .ensures)) (h .loop-test .taken) (h .before .before .pre .src-room)
-
-slice-aggregate-store-i32 : tie.Need-slice-aggregate-store-i32 Inv-loop μ-loop
-slice-aggregate-store-i32 c = search needs
 
 store-i32-requires : tie.Need-store-i32-requires Inv-loop μ-loop
 store-i32-requires c κs = (omega (arith, summed c .line2 .ensures .long), upto-room (turn c .before .loop .inv) (turn c .loop-test .taken))
@@ -69,10 +60,10 @@ rows2-spec =
     Inv-loop
     μ-loop
     loop-holds
-    table-requires
-    slice-aggregate-line2
+    (search needs)
+    (search needs)
     line2-requires
-    slice-aggregate-store-i32
+    (search needs)
     store-i32-requires
     add-j
     loop-less

@@ -29,20 +29,11 @@ turn c = summed c .before .before .before
 loop-holds : tie.Need-loop-holds Inv-loop μ-loop
 loop-holds c = upto-none (c .pre .dst-room)
 
-table-requires : tie.Need-table-requires Inv-loop μ-loop
-table-requires c κs = search needs
-
-slice-aggregate-line4 : tie.Need-slice-aggregate-line4 Inv-loop μ-loop
-slice-aggregate-line4 c = search needs
-
 line4-requires : tie.Need-line4-requires Inv-loop μ-loop
 line4-requires c κs =
     let h = c .before .before in
     let t = built-in-table 2 (omega arith) _ (c .before .table .ensures) in
     (reach-at 1024 4 _ _ t (h .loop-test .taken) (h .before .before .pre .src-room), t .mirrored)
-
-slice-aggregate-store-i32 : tie.Need-slice-aggregate-store-i32 Inv-loop μ-loop
-slice-aggregate-store-i32 c = search needs
 
 store-i32-requires : tie.Need-store-i32-requires Inv-loop μ-loop
 store-i32-requires c κs = (omega arith, upto-room (turn c .before .loop .inv) (turn c .loop-test .taken))
@@ -73,10 +64,10 @@ rows4-spec =
     Inv-loop
     μ-loop
     loop-holds
-    table-requires
-    slice-aggregate-line4
+    (search needs)
+    (search needs)
     line4-requires
-    slice-aggregate-store-i32
+    (search needs)
     store-i32-requires
     add-j
     loop-less

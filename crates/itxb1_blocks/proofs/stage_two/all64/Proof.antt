@@ -24,17 +24,11 @@ twos64-requires c κs = let s = c .before .before in subst (Asked s) (c .before 
 twos64-requires-2 : tie.Need-twos64-requires-2
 twos64-requires-2 c κs = c .before .before .pre
 
-same-length : tie.Need-same-length
-same-length c = search needs
-
 returns : tie.Need-returns
 returns c = let s = c .before .before .before .before in subst (Stored s _) (sym (c .before .before .before .if1 .taken)) (c .before .twos64 .ensures)
-
-same-length-2 : tie.Need-same-length-2
-same-length-2 c = search needs
 
 returns-2 : tie.Need-returns-2
 returns-2 c = c .before .twos642 .ensures
 
 pub all64-spec : {M : Type 1} → statement M
-all64-spec = tie.close (tie.spec twos64-requires twos64-requires-2 same-length returns same-length-2 returns-2)
+all64-spec = tie.close (tie.spec twos64-requires twos64-requires-2 (search needs) returns (search needs) returns-2)

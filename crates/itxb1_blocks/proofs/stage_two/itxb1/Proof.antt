@@ -35,9 +35,6 @@ module _ (c : tie.Then1) where
   abbrev left : ℕ → ℕ → ℤ
   left g = stageTwoAt (tm (2 ^ g)) (2 ^ g) l (s .args .shift) (s .args .src .now)
 
-takes-requires : tie.Need-takes-requires
-takes-requires c κs = search needs
-
 shl-l : tie.Need-shl-l
 shl-l c = omega (arith, known c .line-most)
 
@@ -47,17 +44,11 @@ twos32-requires c κs = let w = known (c .before .before) in (w .shift-most, (si
 all64-requires : tie.Need-all64-requires
 all64-requires c κs = let w = known (c .before .before) in (w .shift-most, (sized-rooms _ 6 (omega (arith, w .size-least, w .size-most, c .before .if2 .left)) (call-rooms w), blocks w))
 
-same-length : tie.Need-same-length
-same-length c = search needs
-
 returns : tie.Need-returns
 returns c =
     let d = c .before .before .before .before in
     two-did 5 6 4 (s d .args .log2-size) (s d .args .log2-line) (s d .args .src .now) (s d .args .dst .now) (s d .args .shift) (guard d)
     (sized-end (left d) (s d .args .dst .now) (l d) (s d .args .log2-size) 5 (c .before .before .before .if2 .taken) (c .before .twos32 .ensures))
-
-same-length-2 : tie.Need-same-length-2
-same-length-2 c = search needs
 
 returns-2 : tie.Need-returns-2
 returns-2 c =
@@ -75,12 +66,12 @@ pub itxb1-spec : {M : Type 1} → statement M
 itxb1-spec =
     tie.close
     (tie.spec
-    takes-requires
+    (search needs)
     shl-l
     twos32-requires
     all64-requires
-    same-length
+    (search needs)
     returns
-    same-length-2
+    (search needs)
     returns-2
     returns-3)

@@ -18,17 +18,11 @@ uppers c = rests c .before .before .before .before .before
 highs-requires : tie.Need-highs-requires
 highs-requires c κs = let g = c .before .pre .1 in record { long = refl; rows = refl; apart = omega arith; among = g .among; src-room = g .src-room }
 
-sums64-requires : tie.Need-sums64-requires
-sums64-requires c κs = search needs
-
 lows-requires : tie.Need-lows-requires
 lows-requires c κs =
     let u = c .before .before .before .before in
     let g = u .before .before .pre .1 in
     record { long = u .highs .ensures .long; rows = refl; apart = omega arith; among = g .among; src-room = g .src-room }
-
-sums64-requires-2 : tie.Need-sums64-requires-2
-sums64-requires-2 c κs = search needs
 
 slice-aggregate-tail : tie.Need-slice-aggregate-tail
 slice-aggregate-tail c = sym (ap length (c .before .before .before .before .before .before .sums64 .ensures) ∙ tab-length 1024 _)
@@ -44,9 +38,6 @@ tail-requires c κs =
       s .pre .1 .dst-room,
     )
 
-same-length : tie.Need-same-length
-same-length c = search needs
-
 returns : tie.Need-returns
 returns c =
     let t = c .before .before in
@@ -59,11 +50,11 @@ two64-spec =
     tie.close
     (tie.spec
     highs-requires
-    sums64-requires
+    (search needs)
     lows-requires
-    sums64-requires-2
+    (search needs)
     slice-aggregate-tail
     slice-aggregate-tail-2
     tail-requires
-    same-length
+    (search needs)
     returns)

@@ -41,15 +41,6 @@ add-clip16 c = fit (known c) w64 both tt
 add-clip16-2 : tie.Need-add-clip16-2
 add-clip16-2 c = fit (known c) w64 (add (loc w64 both) (var 2)) tt
 
-cast-clip16-3 : tie.Need-cast-clip16-3
-cast-clip16-3 c = search needs
-
-shr-clip16 : tie.Need-shr-clip16
-shr-clip16 c = search needs
-
-clip16-requires : tie.Need-clip16-requires
-clip16-requires c κs = search needs
-
 returns : tie.Need-returns
 unfolding joined
 returns c =
@@ -66,7 +57,7 @@ last-spec =
     cast-clip16-2
     add-clip16
     add-clip16-2
-    cast-clip16-3
-    shr-clip16
-    clip16-requires
+    (search needs)
+    (search needs)
+    (search needs)
     returns)

@@ -59,9 +59,6 @@ mul-t22 c = omega (arith, c .before .before .before .before .pre .1 .1 .1)
 slice-set-from-dst : tie.Need-slice-set-from-dst
 slice-set-from-dst c = c .before .before .before .before .pre .1 .1 .1
 
-same-length : tie.Need-same-length
-same-length c = search needs
-
 returns : tie.Need-returns
 returns c =
     let s = c .before .before .before .before in
@@ -88,5 +85,5 @@ tail-at-spec =
     add-t21
     mul-t22
     slice-set-from-dst
-    same-length
+    (search needs)
     returns)

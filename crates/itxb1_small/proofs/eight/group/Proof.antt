@@ -22,31 +22,16 @@ kept s i = quotientAt (s .args .l) (s .args .shift) (s .args .src .now) (s .args
 abbrev zeros : List ℤ
 zeros = replicate 64 (pos 0)
 
-slice-aggregate-rows : tie.Need-slice-aggregate-rows
-slice-aggregate-rows c = search needs
-
 rows-requires : tie.Need-rows-requires
 rows-requires c κs =
     let s = c .before in
     (rw (toZ-ofZ (s .fits .add)) (s .pre .0 .0), record { among = s .pre .1 .0; src-room = s .pre .1 .1 .src-room; z-room = omega (arith, s .pre .0 .1) })
-
-slice-aggregate-store-clipped : tie.Need-slice-aggregate-store-clipped
-slice-aggregate-store-clipped c = search needs
-
-mul-store-clipped : tie.Need-mul-store-clipped
-mul-store-clipped c = search needs
-
-mul-store-clipped-2 : tie.Need-mul-store-clipped-2
-mul-store-clipped-2 c = search needs
 
 store-clipped-requires : tie.Need-store-clipped-requires
 store-clipped-requires c κs =
     let z = c .before .before .before in
     let s = z .before .before in
     (rw (z .rows .ensures, written-length (8 * s .args .m) (kept s) zeros (omega (arith, s .pre .0 .1))) (omega (arith, s .pre .0 .1)), omega (arith, s .pre .1 .0, s .pre .1 .1 .dst-room))
-
-same-length : tie.Need-same-length
-same-length c = search needs
 
 returns : tie.Need-returns
 returns c =
@@ -61,11 +46,11 @@ pub group-spec : {M : Type 1} → statement M
 group-spec =
     tie.close
     (tie.spec
-    slice-aggregate-rows
+    (search needs)
     rows-requires
-    slice-aggregate-store-clipped
-    mul-store-clipped
-    mul-store-clipped-2
+    (search needs)
+    (search needs)
+    (search needs)
     store-clipped-requires
-    same-length
+    (search needs)
     returns)

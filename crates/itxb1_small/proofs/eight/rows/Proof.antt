@@ -32,12 +32,6 @@ turn c = summed c .before .before .before
 loop-holds : tie.Need-loop-holds Inv-loop μ-loop
 loop-holds c = upto-none (c .pre .1 .z-room)
 
-table-requires : tie.Need-table-requires Inv-loop μ-loop
-table-requires c κs = search needs
-
-slice-aggregate-line8 : tie.Need-slice-aggregate-line8 Inv-loop μ-loop
-slice-aggregate-line8 c = search needs
-
 add-line8 : tie.Need-add-line8 Inv-loop μ-loop
 add-line8 c = let h = c .before .before in omega (arith, h .before .before .pre .1 .among, h .loop-test .taken)
 
@@ -50,9 +44,6 @@ line8-requires c κs =
       (reach-at 512 8 _ _ t (omega (arith, s .pre .1 .among, h .loop-test .taken)) (s .pre .1 .src-room), (t .mirrored, u .mirrored)),
       rw (toZ-ofZ (s .fits .add), s .pre .0 .is) (rounding-within (s .args .shift) (s .pre .0 .most) .bound),
     )
-
-slice-aggregate-store-quotients : tie.Need-slice-aggregate-store-quotients Inv-loop μ-loop
-slice-aggregate-store-quotients c = search needs
 
 store-quotients-requires : tie.Need-store-quotients-requires Inv-loop μ-loop
 store-quotients-requires c κs =
@@ -93,11 +84,11 @@ rows-spec =
     Inv-loop
     μ-loop
     loop-holds
-    table-requires
-    slice-aggregate-line8
+    (search needs)
+    (search needs)
     add-line8
     line8-requires
-    slice-aggregate-store-quotients
+    (search needs)
     store-quotients-requires
     add-j
     loop-less

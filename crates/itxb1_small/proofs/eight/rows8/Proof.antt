@@ -39,9 +39,6 @@ turn i m = let p : (i + 1) * m ≡ i * m + m = omega arith in omega arith
 same : (i m n l : ℕ) (G : ℕ → ℤ) (d₀ : List ℤ) {d : List ℤ} → i ≤ n → n * m ≡ l → 8 * l ≤ length d₀ → d ≡ written (i * m * 8) G d₀ → length d ≡ length d₀
 same i m n l G d₀ h e r p = ap length p ∙ written-length (i * m * 8) G d₀ (omega (arith, among i m n l h e))
 
-together-requires : tie.Need-together-requires Inv-loop μ-loop
-together-requires c κs = search needs
-
 add-n : tie.Need-add-n Inv-loop μ-loop
 add-n c = omega (arith, c .before .pre .1 .src-room)
 
@@ -121,7 +118,7 @@ rows8-spec =
     (tie.spec
     Inv-loop
     μ-loop
-    together-requires
+    (search needs)
     add-n
     loop-holds
     mul-group

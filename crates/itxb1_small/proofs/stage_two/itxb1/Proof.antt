@@ -88,12 +88,6 @@ did-2 c = sym (c .before .takes .ensures) ∙ c .if3 .taken
 did-4 : (c : tie.Then4) → answer (c .before .before .before) ≡ true
 did-4 c = sym (c .before .takes2 .ensures) ∙ c .if4 .taken
 
-takes-requires : tie.Need-takes-requires
-takes-requires c κs = search needs
-
-rounding-requires : tie.Need-rounding-requires
-rounding-requires c κs = search needs
-
 rows2-requires : tie.Need-rows2-requires
 rows2-requires c κs =
     let r = c .before in
@@ -102,9 +96,6 @@ rows2-requires c κs =
       amount (s .args .shift) (known s (did-2 d) .shift-most) (toZ-ofZ (sfits-of (r .rounding .ok)) ∙ r .rounding .ensures),
       two-rooms s (d .before .before .if2 .taken) (d .before .before .before .if1 .taken) (did-2 d),
     )
-
-same-length : tie.Need-same-length
-same-length c = search needs
 
 returns : tie.Need-returns
 returns c =
@@ -116,17 +107,11 @@ returns-2 : tie.Need-returns-2
 returns-2 c = left (c .before .before .before .before) (c .before .takes .result) (c .before .takes .ensures) (c .if3 .left)
 
 -- ---- the others
-takes-requires-2 : tie.Need-takes-requires-2
-takes-requires-2 c κs = search needs
-
 lines-requires : tie.Need-lines-requires
 lines-requires c κs = let d = c .before .before in two-call (d .before .before .before) (c .before .if5 .taken) (did-4 d)
 
 lines-requires-2 : tie.Need-lines-requires-2
 lines-requires-2 c κs = let d = c .before .before in known (d .before .before .before) (did-4 d)
-
-same-length-2 : tie.Need-same-length-2
-same-length-2 c = search needs
 
 returns-3 : tie.Need-returns-3
 returns-3 c =
@@ -134,9 +119,6 @@ returns-3 c =
     let d = t .before in
     let s = d .before .before .before in
     done s (d .before .takes2 .result) _ (d .before .takes2 .ensures) (d .if4 .taken) (two-stored s _ (t .if5 .taken) (c .before .lines .ensures))
-
-same-length-3 : tie.Need-same-length-3
-same-length-3 c = search needs
 
 returns-4 : tie.Need-returns-4
 returns-4 c =
@@ -150,17 +132,17 @@ pub itxb1-spec : {M : Type 1} → statement M
 itxb1-spec =
     tie.close
     (tie.spec
-    takes-requires
-    rounding-requires
+    (search needs)
+    (search needs)
     rows2-requires
-    same-length
+    (search needs)
     returns
     returns-2
-    takes-requires-2
+    (search needs)
     lines-requires
     lines-requires-2
-    same-length-2
+    (search needs)
     returns-3
-    same-length-3
+    (search needs)
     returns-4
     returns-5)

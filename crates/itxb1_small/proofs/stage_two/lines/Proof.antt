@@ -53,9 +53,6 @@ amount c = law.amount (c .before .args .shift) (c .before .pre .shift-most) (toZ
 shl-l : tie.Need-shl-l
 shl-l c = omega (arith, c .pre .line-most)
 
-rounding-requires : tie.Need-rounding-requires
-rounding-requires c κs = search needs
-
 rows2-requires : tie.Need-rows2-requires
 rows2-requires c κs = let r = c .before .before in (amount r, room (r .before) 1 (l (r .before)) (c .before .match .keys1) refl)
 
@@ -72,30 +69,18 @@ rows8-requires c κs =
     let e : s .args .log ≡ 3 = omega (arith, s .pre .size-least, s .pre .size-most) in
     ((amount r, rw (count s) (groups-whole (s .args .log2-line) (s .pre .line-most))), room s 3 (l s) e refl)
 
-same-length : tie.Need-same-length
-same-length c = search needs
-
 returns : tie.Need-returns
 returns c = let s = c .before .before .before .before .before in stored s _ 1 (l s) (c .before .before .before .match .keys1) refl (c .before .rows2 .ensures)
-
-same-length-2 : tie.Need-same-length-2
-same-length-2 c = search needs
 
 returns-2 : tie.Need-returns-2
 returns-2 c =
     let s = c .before .before .before .before .before .before in
     stored s _ 2 4 (c .before .before .before .before .match .keys2) (c .before .before .before .if1 .taken) (c .before .rows4 .ensures)
 
-same-length-3 : tie.Need-same-length-3
-same-length-3 c = search needs
-
 returns-3 : tie.Need-returns-3
 returns-3 c =
     let s = c .before .before .before .before .before .before in
     stored s _ 2 (l s) (c .before .before .before .before .match .keys2) refl (c .before .rows42 .ensures)
-
-same-length-4 : tie.Need-same-length-4
-same-length-4 c = search needs
 
 returns-4 : tie.Need-returns-4
 returns-4 c =
@@ -108,16 +93,16 @@ lines-spec =
     tie.close
     (tie.spec
     shl-l
-    rounding-requires
+    (search needs)
     rows2-requires
     rows4-requires
     rows4-requires-2
     rows8-requires
-    same-length
+    (search needs)
     returns
-    same-length-2
+    (search needs)
     returns-2
-    same-length-3
+    (search needs)
     returns-3
-    same-length-4
+    (search needs)
     returns-4)

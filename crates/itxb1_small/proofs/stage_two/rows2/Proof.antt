@@ -30,18 +30,9 @@ turn c = summed c .before .before .before
 loop-holds : tie.Need-loop-holds Inv-loop μ-loop
 loop-holds c = upto-none (c .pre .1 .dst-room)
 
-table-requires : tie.Need-table-requires Inv-loop μ-loop
-table-requires c κs = search needs
-
-slice-aggregate-line2 : tie.Need-slice-aggregate-line2 Inv-loop μ-loop
-slice-aggregate-line2 c = search needs
-
 line2-requires : tie.Need-line2-requires Inv-loop μ-loop
 line2-requires c κs =
     let h = c .before .before in reach-at 2048 2 _ _ (built-in-table 1 (omega arith) _ (c .before .table .ensures)) (h .loop-test .taken) (h .before .before .pre .1 .src-room)
-
-slice-aggregate-store-i16 : tie.Need-slice-aggregate-store-i16 Inv-loop μ-loop
-slice-aggregate-store-i16 c = search needs
 
 store-i16-requires : tie.Need-store-i16-requires Inv-loop μ-loop
 store-i16-requires c κs =
@@ -77,10 +68,10 @@ rows2-spec =
     Inv-loop
     μ-loop
     loop-holds
-    table-requires
-    slice-aggregate-line2
+    (search needs)
+    (search needs)
     line2-requires
-    slice-aggregate-store-i16
+    (search needs)
     store-i16-requires
     add-j
     loop-less

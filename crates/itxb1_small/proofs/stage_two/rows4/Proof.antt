@@ -30,20 +30,11 @@ turn c = summed c .before .before .before
 loop-holds : tie.Need-loop-holds Inv-loop μ-loop
 loop-holds c = upto-none (c .pre .1 .dst-room)
 
-table-requires : tie.Need-table-requires Inv-loop μ-loop
-table-requires c κs = search needs
-
-slice-aggregate-line4 : tie.Need-slice-aggregate-line4 Inv-loop μ-loop
-slice-aggregate-line4 c = search needs
-
 line4-requires : tie.Need-line4-requires Inv-loop μ-loop
 line4-requires c κs =
     let h = c .before .before in
     let t = built-in-table 2 (omega arith) _ (c .before .table .ensures) in
     (reach-at 1024 4 _ _ t (h .loop-test .taken) (h .before .before .pre .1 .src-room), t .mirrored)
-
-slice-aggregate-store-i16 : tie.Need-slice-aggregate-store-i16 Inv-loop μ-loop
-slice-aggregate-store-i16 c = search needs
 
 store-i16-requires : tie.Need-store-i16-requires Inv-loop μ-loop
 store-i16-requires c κs =
@@ -79,10 +70,10 @@ rows4-spec =
     Inv-loop
     μ-loop
     loop-holds
-    table-requires
-    slice-aggregate-line4
+    (search needs)
+    (search needs)
     line4-requires
-    slice-aggregate-store-i16
+    (search needs)
     store-i16-requires
     add-j
     loop-less

@@ -28,15 +28,6 @@ module _ (s : tie.Start) where
   fits : 11 ≤ s .args .shift → SFits w32 (floorPow (s .args .v) (s .args .shift))
   fits h = quotient-fits (s .args .v) (s .args .shift) h (s .pre .1)
 
-cast-q : tie.Need-cast-q
-cast-q c = search needs
-
-shr-q : tie.Need-shr-q
-shr-q c = search needs
-
-clip32-requires : tie.Need-clip32-requires
-clip32-requires c κs = search needs
-
 returns : tie.Need-returns
 returns c = toZ-ofZ (sfits-of (c .clip32 .ok)) ∙ c .clip32 .ensures ∙ ap clip32 (is (c .before .before))
 
@@ -48,4 +39,4 @@ returns-2 c =
     ap (λ (z : ℤ). toZ w32 (ofZ w32 z)) (is (c .before)) ∙ toZ-ofZ (fits (c .before) (omega arith)) ∙ sym (clip32-id _ (fits (c .before) (omega arith)))
 
 pub quotient-spec : {M : Type 1} → statement M
-quotient-spec = tie.close (tie.spec cast-q shr-q clip32-requires returns cast-result returns-2)
+quotient-spec = tie.close (tie.spec (search needs) (search needs) (search needs) returns cast-result returns-2)

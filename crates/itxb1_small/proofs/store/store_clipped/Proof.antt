@@ -38,9 +38,6 @@ shared-slice-copy-out-clip16 c = omega (arith, c .before .before .pre .0)
 cast-clip16 : tie.Need-cast-clip16 Inv-loop μ-loop
 cast-clip16 c = fit (known c) w64 (var 0) tt
 
-clip16-requires : tie.Need-clip16-requires Inv-loop μ-loop
-clip16-requires c κs = search needs
-
 add-t12 : tie.Need-add-t12 Inv-loop μ-loop
 add-t12 c = omega (arith, c .before .before .before .before .pre .1)
 
@@ -82,7 +79,7 @@ store-clipped-spec =
     mul-clip16
     shared-slice-copy-out-clip16
     cast-clip16
-    clip16-requires
+    (search needs)
     add-t12
     mul-t13
     slice-set-from-dst

@@ -47,14 +47,8 @@ known c =
 add-clip16 : tie.Need-add-clip16 Inv-loop μ-loop
 add-clip16 c = fit (known c) w64 (add (var 0) (var 1)) tt
 
-cast-clip16 : tie.Need-cast-clip16 Inv-loop μ-loop
-cast-clip16 c = search needs
-
 shr-clip16 : tie.Need-shr-clip16 Inv-loop μ-loop
 shr-clip16 c = omega (arith, c .before .before .before .pre .0 .0 .most)
-
-clip16-requires : tie.Need-clip16-requires Inv-loop μ-loop
-clip16-requires c κs = search needs
 
 mul-t16 : tie.Need-mul-t16 Inv-loop μ-loop
 mul-t16 c = omega (arith, c .before .before .before .before .pre .1 .1)
@@ -104,9 +98,9 @@ store-i16-spec =
     mul-clip16
     shared-slice-copy-out-clip16
     add-clip16
-    cast-clip16
+    (search needs)
     shr-clip16
-    clip16-requires
+    (search needs)
     mul-t16
     add-t17
     mul-t18

@@ -20,29 +20,8 @@ known c =
     let a = c .before .before .args in
     env (entry (c .before) ∷ arg w32 (rows (a .x .now) (a .l) (a .k) (a .j)) (sfits-of (c .result2 .given)) ∷ [])
 
-mul-result : tie.Need-mul-result
-mul-result c = search needs
-
-add-result : tie.Need-add-result
-add-result c = search needs
-
-shared-slice-copy-out-result : tie.Need-shared-slice-copy-out-result
-shared-slice-copy-out-result c = search needs
-
 cast-result : tie.Need-cast-result
 cast-result c = fit (env (entry c ∷ [])) w64 (var 0) tt
-
-mul-result-2 : tie.Need-mul-result-2
-mul-result-2 c = search needs
-
-add-result-2 : tie.Need-add-result-2
-add-result-2 c = search needs
-
-mul-result-3 : tie.Need-mul-result-3
-mul-result-3 c = search needs
-
-shared-slice-copy-out-result-2 : tie.Need-shared-slice-copy-out-result-2
-shared-slice-copy-out-result-2 c = search needs
 
 cast-result-2 : tie.Need-cast-result-2
 cast-result-2 c = fit (known c) w64 (var 1) tt
@@ -59,14 +38,14 @@ pub term-spec : {M : Type 1} → statement M
 term-spec =
     tie.close
     (tie.spec
-    mul-result
-    add-result
-    shared-slice-copy-out-result
+    (search needs)
+    (search needs)
+    (search needs)
     cast-result
-    mul-result-2
-    add-result-2
-    mul-result-3
-    shared-slice-copy-out-result-2
+    (search needs)
+    (search needs)
+    (search needs)
+    (search needs)
     cast-result-2
     mul-result-4
     returns)

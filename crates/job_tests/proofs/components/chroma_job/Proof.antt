@@ -6,15 +6,6 @@ use mir.Val.{toZ, ofZ}
 use Rattle.job_tests.proofs.components.chroma_job.Statement.{statement}
 use Rattle.job_tests.proofs.components.chroma_job.Tie as tie
 
-less-requires : tie.Need-less-requires
-less-requires c κs = search needs
-
-less-requires-2 : tie.Need-less-requires-2
-less-requires-2 c κs = search needs
-
-job-of-requires : tie.Need-job-of-requires
-job-of-requires c κs = search needs
-
 returns : tie.Need-returns
 returns c =
     let k = c .before .before in
@@ -23,4 +14,4 @@ returns c =
     rw (off, k .before .less .ensures, k .less2 .ensures) at (c .job-of .ensures)
 
 pub chroma-job-spec : {M : Type 1} → statement M
-chroma-job-spec = tie.close (tie.spec less-requires less-requires-2 job-of-requires returns)
+chroma-job-spec = tie.close (tie.spec (search needs) (search needs) (search needs) returns)

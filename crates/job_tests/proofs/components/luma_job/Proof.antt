@@ -6,9 +6,6 @@ use mir.Val.{toZ, ofZ}
 use Rattle.job_tests.proofs.components.luma_job.Statement.{statement}
 use Rattle.job_tests.proofs.components.luma_job.Tie as tie
 
-job-of-requires : tie.Need-job-of-requires
-job-of-requires c κs = search needs
-
 returns : tie.Need-returns
 returns c =
     let call = c .before .before .args .call in
@@ -16,4 +13,4 @@ returns c =
     rw off at (c .job-of .ensures)
 
 pub luma-job-spec : {M : Type 1} → statement M
-luma-job-spec = tie.close (tie.spec job-of-requires returns)
+luma-job-spec = tie.close (tie.spec (search needs) returns)

@@ -13,12 +13,6 @@ use Rattle.job_tests.proofs.job.past_end.Tie as tie
 sized : (c : tie.Start) → (1 * 2 ^ (c .args .job .«log2_w» + c .args .job .«log2_h»)) % 2 ^ 64 ≡ samplesOf (c .args .job .«log2_w») (c .args .job .«log2_h»)
 sized c = one-shl w64 (c .args .job .«log2_w» + c .args .job .«log2_h») (omega (arith, c .pre .0, c .pre .1))
 
-add-n : tie.Need-add-n
-add-n c = search needs
-
-shl-n : tie.Need-shl-n
-shl-n c = search needs
-
 returns : tie.Need-returns
 returns c = past-short (c .before .before .args .job) _ (sized (c .before .before)) _ (c .if1 .taken)
 
@@ -26,4 +20,4 @@ returns-2 : tie.Need-returns-2
 returns-2 c = past-left (c .before .before .before .args .job) _ (sized (c .before .before .before)) _ (c .before .if1 .left)
 
 pub past-end-spec : {M : Type 1} → statement M
-past-end-spec = tie.close (tie.spec add-n shl-n returns returns-2)
+past-end-spec = tie.close (tie.spec (search needs) (search needs) returns returns-2)

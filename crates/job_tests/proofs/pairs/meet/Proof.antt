@@ -11,9 +11,6 @@ samples-requires c κs = let s = c .before in s .pre .0 (and-both (s .args .one)
 samples-requires-2 : tie.Need-samples-requires-2
 samples-requires-2 c κs = let s = c .before .before in s .pre .1 (and-both (s .args .one) (s .args .other) (c .before .if1 .taken) .1)
 
-runs-meet-requires : tie.Need-runs-meet-requires
-runs-meet-requires c κs = search needs
-
 returns : tie.Need-returns
 returns c =
     let i = c .before .before .before in
@@ -25,4 +22,4 @@ returns-2 : tie.Need-returns-2
 returns-2 c = rw (c .if1 .left)
 
 pub meet-spec : {M : Type 1} → statement M
-meet-spec = tie.close (tie.spec samples-requires samples-requires-2 runs-meet-requires returns returns-2)
+meet-spec = tie.close (tie.spec samples-requires samples-requires-2 (search needs) returns returns-2)

@@ -4,9 +4,6 @@ use borrow.Author.Needs.{needs}
 use Rattle.job_tests.proofs.pairs.runs_meet.Statement.{statement}
 use Rattle.job_tests.proofs.pairs.runs_meet.Tie as tie
 
-sub-result : tie.Need-sub-result
-sub-result c = search needs
-
 returns : tie.Need-returns
 returns c u v = first-lower _ _ _ _ (c .if1 .taken) u v
 
@@ -14,4 +11,4 @@ returns-2 : tie.Need-returns-2
 returns-2 c u v = second-lower _ _ _ _ (c .if1 .left) u v
 
 pub runs-meet-spec : {M : Type 1} → statement M
-runs-meet-spec = tie.close (tie.spec sub-result returns returns-2)
+runs-meet-spec = tie.close (tie.spec (search needs) returns returns-2)

@@ -7,16 +7,10 @@ use borrow.Author.Needs.{needs}
 use Rattle.job_tests.proofs.pairs.samples.Statement.{statement}
 use Rattle.job_tests.proofs.pairs.samples.Tie as tie
 
-add-result : tie.Need-add-result
-add-result c = search needs
-
-shl-result : tie.Need-shl-result
-shl-result c = search needs
-
 returns : tie.Need-returns
 returns c =
     let s = c .before in
     one-shl w64 (s .args .job .«log2_w» + s .args .job .«log2_h») (omega (arith, s .pre .w6, s .pre .h6))
 
 pub samples-spec : {M : Type 1} → statement M
-samples-spec = tie.close (tie.spec add-result shl-result returns)
+samples-spec = tie.close (tie.spec (search needs) (search needs) returns)

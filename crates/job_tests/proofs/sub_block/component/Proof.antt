@@ -3,9 +3,6 @@ use borrow.Author.Needs.{needs}
 use Rattle.job_tests.proofs.sub_block.component.Statement.{statement}
 use Rattle.job_tests.proofs.sub_block.component.Tie as tie
 
-of-job-requires : tie.Need-of-job-requires
-of-job-requires c κs = search needs
-
 returns : tie.Need-returns
 returns c = rw (c .before .if1 .taken) (c .of-job .ensures)
 
@@ -13,4 +10,4 @@ returns-2 : tie.Need-returns-2
 returns-2 c = rw (c .if1 .left)
 
 pub component-spec : {M : Type 1} → statement M
-component-spec = tie.close (tie.spec of-job-requires returns returns-2)
+component-spec = tie.close (tie.spec (search needs) returns returns-2)

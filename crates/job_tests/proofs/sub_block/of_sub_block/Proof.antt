@@ -14,18 +14,6 @@ use borrow.Author.Needs.{needs}
 use Rattle.job_tests.proofs.sub_block.of_sub_block.Statement.{statement}
 use Rattle.job_tests.proofs.sub_block.of_sub_block.Tie as tie
 
-luma-job-requires : tie.Need-luma-job-requires
-luma-job-requires c κs = search needs
-
-chroma-job-requires : tie.Need-chroma-job-requires
-chroma-job-requires c κs = search needs
-
-chroma-job-requires-2 : tie.Need-chroma-job-requires-2
-chroma-job-requires-2 c κs = search needs
-
-component-requires : tie.Need-component-requires
-component-requires c κs = search needs
-
 -- ---- the call by its components, as the code has their jobs
 module _ (c : tie.After-chroma-job2) where
   abbrev start : tie.Start
@@ -53,18 +41,12 @@ module _ (c : tie.After-chroma-job2) where
   whole : by-y ≡ subReply (start .args .len) (start .args .call)
   whole = sub-as (start .args .len) (start .args .call) (c .before .before .luma-job .ensures) (c .before .chroma-job .ensures) (c .chroma-job2 .ensures)
 
-enum-known-r : tie.Need-enum-known-r
-enum-known-r c = search needs
-
 returns : tie.Need-returns
 returns c =
     let t = c .before .before .before in
     let k = t .before in
     component-here (start k .args .call .y .flag) Y _ (by-u k) (c .before .r .given .0 .0) (sym (ap verdictNumber (c .before .r .given .1)) ∙ t .component .ensures)
     ∙ whole k
-
-enum-told : tie.Need-enum-told
-enum-told c = search needs
 
 -- ---- where Y has passed
 module _ (c : tie.At-match-keys2) where
@@ -77,12 +59,6 @@ module _ (c : tie.At-match-keys2) where
   y-passed : by-u jobs ≡ subReply (start jobs .args .len) (start jobs .args .call)
   y-passed = component-rest (start jobs .args .call .y .flag) Y _ (by-u jobs) y-number ∙ whole jobs
 
-component-requires-2 : tie.Need-component-requires-2
-component-requires-2 c κs = search needs
-
-enum-known-r-2 : tie.Need-enum-known-r-2
-enum-known-r-2 c = search needs
-
 returns-2 : tie.Need-returns-2
 returns-2 c =
     let t = c .before .before .before in
@@ -90,9 +66,6 @@ returns-2 c =
     let k = jobs p in
     component-here (start k .args .call .u .flag) U _ (by-v k) (c .before .r2 .given .0 .0) (sym (ap verdictNumber (c .before .r2 .given .1)) ∙ t .component2 .ensures)
     ∙ y-passed p
-
-enum-told-2 : tie.Need-enum-told-2
-enum-told-2 c = search needs
 
 -- ---- and U
 module _ (c : tie.At-match2-keys2) where
@@ -105,12 +78,6 @@ module _ (c : tie.At-match2-keys2) where
   u-passed : by-v (jobs y-at) ≡ subReply (start (jobs y-at) .args .len) (start (jobs y-at) .args .call)
   u-passed = component-rest (start (jobs y-at) .args .call .u .flag) U _ (by-v (jobs y-at)) u-number ∙ y-passed y-at
 
-component-requires-3 : tie.Need-component-requires-3
-component-requires-3 c κs = search needs
-
-enum-known-r-3 : tie.Need-enum-known-r-3
-enum-known-r-3 c = search needs
-
 returns-3 : tie.Need-returns-3
 returns-3 c =
     let t = c .before .before .before in
@@ -118,9 +85,6 @@ returns-3 c =
     let k = jobs (y-at p) in
     component-here (start k .args .call .v .flag) «V» _ _ (c .before .r3 .given .0 .0) (sym (ap verdictNumber (c .before .r3 .given .1)) ∙ t .component3 .ensures)
     ∙ u-passed p
-
-enum-told-3 : tie.Need-enum-told-3
-enum-told-3 c = search needs
 
 -- ---- and V
 module _ (c : tie.At-match3-keys2) where
@@ -154,20 +118,20 @@ pub of-sub-block-spec : {M : Type 1} → statement M
 of-sub-block-spec =
     tie.close
     (tie.spec
-    luma-job-requires
-    chroma-job-requires
-    chroma-job-requires-2
-    component-requires
-    enum-known-r
+    (search needs)
+    (search needs)
+    (search needs)
+    (search needs)
+    (search needs)
     returns
-    enum-told
-    component-requires-2
-    enum-known-r-2
+    (search needs)
+    (search needs)
+    (search needs)
     returns-2
-    enum-told-2
-    component-requires-3
-    enum-known-r-3
+    (search needs)
+    (search needs)
+    (search needs)
     returns-3
-    enum-told-3
+    (search needs)
     pairs-requires
     returns-4)

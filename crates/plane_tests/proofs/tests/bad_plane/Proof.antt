@@ -6,14 +6,8 @@ use Rattle.evc.proofs.Tests.{outside-no}
 use Rattle.plane_tests.proofs.tests.bad_plane.Statement.{statement}
 use Rattle.plane_tests.proofs.tests.bad_plane.Tie as tie
 
-outside-requires : tie.Need-outside-requires
-outside-requires c κs = search needs
-
 returns : tie.Need-returns
 returns c = rw (sym (c .before .outside .ensures) ∙ c .if1 .taken)
-
-outside-requires-2 : tie.Need-outside-requires-2
-outside-requires-2 c κs = search needs
 
 returns-2 : tie.Need-returns-2
 returns-2 c = rw (sym (c .before .before .before .outside .ensures) ∙ c .before .before .if1 .left, sym (c .before .outside2 .ensures) ∙ c .if2 .taken)
@@ -42,4 +36,4 @@ returns-4 c =
     (c .too-short .ensures)
 
 pub bad-plane-spec : {M : Type 1} → statement M
-bad-plane-spec = tie.close (tie.spec outside-requires returns outside-requires-2 returns-2 returns-3 too-short-requires returns-4)
+bad-plane-spec = tie.close (tie.spec (search needs) returns (search needs) returns-2 returns-3 too-short-requires returns-4)

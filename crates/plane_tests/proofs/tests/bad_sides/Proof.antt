@@ -5,14 +5,8 @@ use borrow.Author.Needs.{needs}
 use Rattle.plane_tests.proofs.tests.bad_sides.Statement.{statement}
 use Rattle.plane_tests.proofs.tests.bad_sides.Tie as tie
 
-outside-requires : tie.Need-outside-requires
-outside-requires c κs = search needs
-
-outside-requires-2 : tie.Need-outside-requires-2
-outside-requires-2 c κs = search needs
-
 returns : tie.Need-returns
 returns c = ap₂ _||_ (c .before .outside .ensures) (c .outside2 .ensures)
 
 pub bad-sides-spec : {M : Type 1} → statement M
-bad-sides-spec = tie.close (tie.spec outside-requires outside-requires-2 returns)
+bad-sides-spec = tie.close (tie.spec (search needs) (search needs) returns)

@@ -11,9 +11,6 @@ use Rattle.plane_tests.proofs.Planes.{well-formed}
 use Rattle.plane_tests.proofs.tests.outside_edges.Statement.{statement}
 use Rattle.plane_tests.proofs.tests.outside_edges.Tie as tie
 
-bad-plane-requires : tie.Need-bad-plane-requires
-bad-plane-requires c κs = search needs
-
 returns : tie.Need-returns
 returns c = rw (sym (c .before .bad-plane .ensures) ∙ c .if1 .taken)
 
@@ -49,4 +46,4 @@ returns-3 c =
     (c .past2 .ensures ∙ ap (λ (z : ℤ). pastEdge z (a .h) (a .height)) (toZ-ofZ (s .fits .y)))
 
 pub outside-edges-spec : {M : Type 1} → statement M
-outside-edges-spec = tie.close (tie.spec bad-plane-requires returns past-requires past-requires-2 returns-2 returns-3)
+outside-edges-spec = tie.close (tie.spec (search needs) returns past-requires past-requires-2 returns-2 returns-3)

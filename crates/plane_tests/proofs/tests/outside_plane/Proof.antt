@@ -5,17 +5,8 @@ use Rattle.integers.proofs.Bools.{or-second, or-third}
 use Rattle.plane_tests.proofs.tests.outside_plane.Statement.{statement}
 use Rattle.plane_tests.proofs.tests.outside_plane.Tie as tie
 
-bad-plane-requires : tie.Need-bad-plane-requires
-bad-plane-requires c κs = search needs
-
 returns : tie.Need-returns
 returns c = rw (sym (c .before .bad-plane .ensures) ∙ c .if1 .taken)
-
-beyond-requires : tie.Need-beyond-requires
-beyond-requires c κs = search needs
-
-beyond-requires-2 : tie.Need-beyond-requires-2
-beyond-requires-2 c κs = search needs
 
 returns-2 : tie.Need-returns-2
 returns-2 c =
@@ -27,4 +18,4 @@ returns-3 c =
     (sym (c .before .before .beyond .ensures) ∙ c .before .if2 .left) (c .beyond2 .ensures)
 
 pub outside-plane-spec : {M : Type 1} → statement M
-outside-plane-spec = tie.close (tie.spec bad-plane-requires returns beyond-requires beyond-requires-2 returns-2 returns-3)
+outside-plane-spec = tie.close (tie.spec (search needs) returns (search needs) (search needs) returns-2 returns-3)

@@ -28,12 +28,6 @@ add-from c = fit (ρ c) w32 from tt
 cast-from-2 : tie.Need-cast-from-2
 cast-from-2 c = to-unsigned (ρ c) w64 (loc w32 from) tt tt (from-lowest (c .args .x) (c .fits .x))
 
-add-beyond : tie.Need-add-beyond
-add-beyond c = search needs
-
-beyond-requires : tie.Need-beyond-requires
-beyond-requires c κs = search needs
-
 returns : tie.Need-returns
 returns c =
     let a = c .before .args in
@@ -41,4 +35,4 @@ returns c =
     ∙ past-far (a .x) (a .w) (a .side) (c .before .fits .x)
 
 pub past-spec : {M : Type 1} → statement M
-past-spec = tie.close (tie.spec cast-from add-from cast-from-2 add-beyond beyond-requires returns)
+past-spec = tie.close (tie.spec cast-from add-from cast-from-2 (search needs) (search needs) returns)

@@ -13,9 +13,6 @@ use Rattle.plane_tests.proofs.tests.too_short.Tie as tie
 returns : tie.Need-returns
 returns c = let a = c .before .args in sym (lt-ltb (a .n) (reach 0 (a .width) (a .stride) (a .height)) (omega arith))
 
-sub-rows : tie.Need-sub-rows
-sub-rows c = search needs
-
 mul-result : tie.Need-mul-result
 mul-result c =
     let a = c .before .before .args in
@@ -29,9 +26,6 @@ returns-2 c =
     let a = c .before .before .args in
     ltb-same (a .n - a .width) ((a .height - 1) * a .stride) (a .n) (reach 0 (a .width) (a .stride) (a .height)) (λ h. omega arith) (λ h. omega arith)
 
-div-result : tie.Need-div-result
-div-result c = search needs
-
 returns-3 : tie.Need-returns-3
 returns-3 c =
     let a = c .before .before .args in
@@ -42,4 +36,4 @@ returns-3 c =
     (λ h. div-lt-iff-lt-mul by .1 (omega arith))
 
 pub too-short-spec : {M : Type 1} → statement M
-too-short-spec = tie.close (tie.spec returns sub-rows mul-result returns-2 div-result returns-3)
+too-short-spec = tie.close (tie.spec returns (search needs) mul-result returns-2 (search needs) returns-3)

@@ -8,14 +8,8 @@ use borrow.Author.Needs.{needs}
 use Rattle.sad.proofs.edges.edge_row.Statement.{statement}
 use Rattle.sad.proofs.edges.edge_row.Tie as tie
 
-array-borrow-prefix-line : tie.Need-array-borrow-prefix-line
-array-borrow-prefix-line c = search needs
-
 slice-aggregate-edge-row : tie.Need-slice-aggregate-edge-row
 slice-aggregate-edge-row c = line-room _ _ (c .before .before .before .pre .1)
-
-edge-row-requires : tie.Need-edge-row-requires
-edge-row-requires c κs = search needs
 
 array-share-prefix-line : tie.Need-array-share-prefix-line
 array-share-prefix-line c = line-long _ _ (c .before .before .before .before .before .pre .1) _ _ (c .before .edge-row .ensures)
@@ -38,9 +32,9 @@ pub edge-row-spec : {M : Type 1} → statement M
 edge-row-spec =
     tie.close
     (tie.spec
-    array-borrow-prefix-line
+    (search needs)
     slice-aggregate-edge-row
-    edge-row-requires
+    (search needs)
     array-share-prefix-line
     slice-aggregate-sad-row
     sad-row-requires

@@ -34,12 +34,6 @@ less c = subst (λ (x : ℤ). x <ℤ pos 0) (reads (ρ (c .before)) (loc w32 d) 
 more : (c : tie.Else1) → pos 0 ≤ℤ z (c .before)
 more c = subst (λ (x : ℤ). pos 0 ≤ℤ x) (reads (ρ (c .before)) (loc w32 d) tt) (lt-failed _ _ (c .if1 .left))
 
-cast-d : tie.Need-cast-d
-cast-d c = search needs
-
-cast-d-2 : tie.Need-cast-d-2
-cast-d-2 c = search needs
-
 sub-d : tie.Need-sub-d
 sub-d c = fit (ρ c) w32 d tt
 
@@ -63,4 +57,4 @@ returns-2 c = ap natAbs (reads (ρ (c .before)) (loc w32 d) tt)
 pub far-spec : {M : Type 1} → statement M
 far-spec =
     tie.close
-    (tie.spec cast-d cast-d-2 sub-d sub-result cast-result cast-result-2 returns returns-2)
+    (tie.spec (search needs) (search needs) sub-d sub-result cast-result cast-result-2 returns returns-2)

@@ -39,27 +39,15 @@ two c =
     let f = c .before .before .before .before .before .before .before .before .before .before .fits in
     rw (toZ-ofZ (f .mv-x), toZ-ofZ (f .mv-y)) at (sym (c .before .outside-edges .ensures) ∙ c .if4 .left)
 
-bad-sides-requires : tie.Need-bad-sides-requires
-bad-sides-requires c κs = search needs
-
 returns : tie.Need-returns
 returns c = sad-size _ _ _ _ _ (sym (c .before .bad-sides .ensures) ∙ c .if1 .taken)
-
-bad-depth-requires : tie.Need-bad-depth-requires
-bad-depth-requires c κs = search needs
 
 returns-2 : tie.Need-returns-2
 returns-2 c = sad-depth _ _ _ _ _ (sized (c .before .before)) (sym (c .before .bad-depth .ensures) ∙ c .if2 .taken)
 
-outside-plane-requires : tie.Need-outside-plane-requires
-outside-plane-requires c κs = search needs
-
 returns-3 : tie.Need-returns-3
 returns-3 c =
     sad-area _ _ _ _ _ (sized (c .before .before .before .before)) (deep (c .before .before)) (sym (c .before .outside-plane .ensures) ∙ c .if3 .taken)
-
-outside-edges-requires : tie.Need-outside-edges-requires
-outside-edges-requires c κs = search needs
 
 returns-4 : tie.Need-returns-4
 returns-4 c =
@@ -91,9 +79,6 @@ total-requires c κs =
     let f = c .before .before .before .before .before .before .before .before .before .before .fits in
     rw (toZ-ofZ (f .mv-x), toZ-ofZ (f .mv-y)) (ready c)
 
-sad-answer-requires : tie.Need-sad-answer-requires
-sad-answer-requires c κs = search needs
-
 returns-5 : tie.Need-returns-5
 returns-5 c =
     let e = c .before .before in
@@ -110,16 +95,16 @@ pub evce-sad-16b-spec : {M : Type 1} → statement M
 evce-sad-16b-spec =
     tie.close
     (tie.spec
-    bad-sides-requires
+    (search needs)
     returns
-    bad-depth-requires
+    (search needs)
     returns-2
-    outside-plane-requires
+    (search needs)
     returns-3
-    outside-edges-requires
+    (search needs)
     returns-4
     mul-total
     add-total
     total-requires
-    sad-answer-requires
+    (search needs)
     returns-5)

@@ -34,27 +34,15 @@ two :
     outsidePlane (length (a .pred .now)) (a .w) (a .h) (a .w) 0 0 (a .w) (a .h) ≡ false
 two c = sym (c .before .outside-plane2 .ensures) ∙ c .if4 .left
 
-bad-sides-requires : tie.Need-bad-sides-requires
-bad-sides-requires c κs = search needs
-
 returns : tie.Need-returns
 returns c = sad-size _ _ _ _ _ (sym (c .before .bad-sides .ensures) ∙ c .if1 .taken)
-
-bad-depth-requires : tie.Need-bad-depth-requires
-bad-depth-requires c κs = search needs
 
 returns-2 : tie.Need-returns-2
 returns-2 c = sad-depth _ _ _ _ _ (sized (c .before .before)) (sym (c .before .bad-depth .ensures) ∙ c .if2 .taken)
 
-outside-plane-requires : tie.Need-outside-plane-requires
-outside-plane-requires c κs = search needs
-
 returns-3 : tie.Need-returns-3
 returns-3 c =
     sad-area _ _ _ _ _ (sized (c .before .before .before .before)) (deep (c .before .before)) (sym (c .before .outside-plane .ensures) ∙ c .if3 .taken)
-
-outside-plane-requires-2 : tie.Need-outside-plane-requires-2
-outside-plane-requires-2 c κs = search needs
 
 returns-4 : tie.Need-returns-4
 returns-4 c =
@@ -80,9 +68,6 @@ add-sad-block c = omega (arith, blocks c .one)
 sad-block-requires : tie.Need-sad-block-requires
 sad-block-requires c κs = blocks c
 
-sad-answer-requires : tie.Need-sad-answer-requires
-sad-answer-requires c κs = search needs
-
 returns-5 : tie.Need-returns-5
 returns-5 c =
     let e = c .before .before in
@@ -97,16 +82,16 @@ pub evce-sad-16i-spec : {M : Type 1} → statement M
 evce-sad-16i-spec =
     tie.close
     (tie.spec
-    bad-sides-requires
+    (search needs)
     returns
-    bad-depth-requires
+    (search needs)
     returns-2
-    outside-plane-requires
+    (search needs)
     returns-3
-    outside-plane-requires-2
+    (search needs)
     returns-4
     mul-sad-block
     add-sad-block
     sad-block-requires
-    sad-answer-requires
+    (search needs)
     returns-5)

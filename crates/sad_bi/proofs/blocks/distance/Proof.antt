@@ -38,9 +38,6 @@ more c = subst₂ _≤ℤ_ (reads (ρ (c .before)) (var 1) tt) (reads (ρ (c .be
 cast-x : tie.Need-cast-x
 cast-x c = fit (ρ c) w32 (var 0) tt
 
-cast-y : tie.Need-cast-y
-cast-y c = search needs
-
 sub-result : tie.Need-sub-result
 sub-result c = fit (ρ (c .before)) w32 below tt
 
@@ -68,4 +65,4 @@ returns-2 c = let e = ap natAbs (reads (ρ (c .before)) (loc w32 above) tt) in (
 pub distance-spec : {M : Type 1} → statement M
 distance-spec =
     tie.close
-    (tie.spec cast-x cast-y sub-result cast-result sub-result-2 cast-result-2 returns returns-2)
+    (tie.spec cast-x (search needs) sub-result cast-result sub-result-2 cast-result-2 returns returns-2)

@@ -17,11 +17,5 @@ sad-rows-requires c κs =
 returns : tie.Need-returns
 returns c = blocks-four _ _ 4 _ refl (c .before .if1 .taken) (c .sad-rows .ensures)
 
-sad-rows-requires-2 : tie.Need-sad-rows-requires-2
-sad-rows-requires-2 c κs = search needs
-
-returns-2 : tie.Need-returns-2
-returns-2 c = search needs
-
 pub fours-spec : {M : Type 1} → statement M
-fours-spec = tie.close (tie.spec sad-rows-requires returns sad-rows-requires-2 returns-2)
+fours-spec = tie.close (tie.spec sad-rows-requires returns (search needs) (search needs))

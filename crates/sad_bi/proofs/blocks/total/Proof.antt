@@ -114,11 +114,8 @@ returns-2 c =
     counted (a .a .now) (a .b .now) (a .b-at) (a .w) (a .h) 32 (a .w * a .h / 64) (a .b-stride) (c .before .before .before .if1 .taken)
     (divided (a .w) (a .h) 64 (c .before .if3 .taken)) (c .runs2 .ensures)
 
-sad-block-requires : tie.Need-sad-block-requires
-sad-block-requires c κs = search needs
-
 returns-3 : tie.Need-returns-3
 returns-3 c = counted-all _ _ _ _ (c .sad-block .ensures)
 
 pub total-spec : {M : Type 1} → statement M
-total-spec = tie.close (tie.spec mul-size runs-requires returns runs-requires-2 returns-2 sad-block-requires returns-3)
+total-spec = tie.close (tie.spec mul-size runs-requires returns runs-requires-2 returns-2 (search needs) returns-3)

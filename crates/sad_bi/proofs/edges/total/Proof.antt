@@ -22,19 +22,10 @@ inside :
     c .row-start .result .row * a .ref-stride + c .row-start .result .column < length (a .reference .now)
 inside c = let s = c .before .before .before .before in stands-in (s .args .ref-stride) (s .fits .mv-x) (s .fits .mv-y) (c .row-start .ensures) (s .pre .two)
 
-negative-requires : tie.Need-negative-requires
-negative-requires c κs = search needs
-
-edge-rows-requires : tie.Need-edge-rows-requires
-edge-rows-requires c κs = search needs
-
 returns : tie.Need-returns
 returns c =
     let s = c .before .before .before .before in
     counted-all (s .args .w) (s .args .h) _ _ (rw (toZ-ofZ (s .fits .mv-x), toZ-ofZ (s .fits .mv-y)) at (c .edge-rows .ensures))
-
-row-start-requires : tie.Need-row-start-requires
-row-start-requires c κs = search needs
 
 mul-from : tie.Need-mul-from
 mul-from c = omega (arith, inside c, c .before .before .before .before .good)
@@ -64,10 +55,10 @@ pub total-spec : {M : Type 1} → statement M
 total-spec =
     tie.close
     (tie.spec
-    negative-requires
-    edge-rows-requires
+    (search needs)
+    (search needs)
     returns
-    row-start-requires
+    (search needs)
     mul-from
     add-from
     total-requires

@@ -18,9 +18,6 @@ returns c =
     let p : 2 ^ 16 ≤ 2 ^ a .depth = pow-mono h in
     sym (lt-leb (2 ^ a .depth) (a .any) (omega arith))
 
-shr-result : tie.Need-shr-result
-shr-result c = search needs
-
 -- a mark has a bit at the depth or above exactly where it reaches 2^depth
 reached : (n k : ℕ) → not (eqb (n / 2 ^ k) 0) ≡ leb (2 ^ k) n
 reached n k = go (eqb (n / 2 ^ k) 0) refl
@@ -33,4 +30,4 @@ returns-2 : tie.Need-returns-2
 returns-2 c = reached (c .before .args .any) (c .before .args .depth)
 
 pub bad-samples-spec : {M : Type 1} → statement M
-bad-samples-spec = tie.close (tie.spec returns shr-result returns-2)
+bad-samples-spec = tie.close (tie.spec returns (search needs) returns-2)

@@ -33,9 +33,6 @@ any-rows-requires-5 c κs = asked-at (c .match .keys5) (c .before .before .befor
 any-rows-requires-6 : tie.Need-any-rows-requires-6
 any-rows-requires-6 c κs = asked-at (c .match .keys6) (c .before .before .before .pre)
 
-any-rows-requires-7 : tie.Need-any-rows-requires-7
-any-rows-requires-7 c κs = search needs
-
 returns : tie.Need-returns
 returns c = marks-at _ _ _ _ _ 64 _ (c .before .match .keys1) (c .any-rows .ensures)
 
@@ -54,9 +51,6 @@ returns-5 c = marks-at _ _ _ _ _ 4 _ (c .before .match .keys5) (c .any-rows5 .en
 returns-6 : tie.Need-returns-6
 returns-6 c = marks-at _ _ _ _ _ 2 _ (c .before .match .keys6) (c .any-rows6 .ensures)
 
-returns-7 : tie.Need-returns-7
-returns-7 c = search needs
-
 pub any-block-spec : {M : Type 1} → statement M
 any-block-spec =
     tie.close
@@ -67,11 +61,11 @@ any-block-spec =
     any-rows-requires-4
     any-rows-requires-5
     any-rows-requires-6
-    any-rows-requires-7
+    (search needs)
     returns
     returns-2
     returns-3
     returns-4
     returns-5
     returns-6
-    returns-7)
+    (search needs))

@@ -27,20 +27,11 @@ sized c = sym (c .before .bad-even-sides .ensures) ∙ c .if1 .left
 deep : (c : tie.Else2) → outside 8 14 (c .before .before .before .before .before .before .args .depth) ≡ false
 deep c = sym (c .before .bad-depth .ensures) ∙ c .if2 .left
 
-bad-even-sides-requires : tie.Need-bad-even-sides-requires
-bad-even-sides-requires c κs = search needs
-
 returns : tie.Need-returns
 returns c = satd-size _ _ _ _ _ (sym (c .before .bad-even-sides .ensures) ∙ c .if1 .taken)
 
-bad-depth-requires : tie.Need-bad-depth-requires
-bad-depth-requires c κs = search needs
-
 returns-2 : tie.Need-returns-2
 returns-2 c = satd-depth _ _ _ _ _ (sized (c .before .before)) (sym (c .before .bad-depth .ensures) ∙ c .if2 .taken)
-
-outside-plane-requires : tie.Need-outside-plane-requires
-outside-plane-requires c κs = search needs
 
 -- the sides are small
 small :
@@ -121,11 +112,11 @@ pub evce-satd-16b-spec : {M : Type 1} → statement M
 evce-satd-16b-spec =
     tie.close
     (tie.spec
-    bad-even-sides-requires
+    (search needs)
     returns
-    bad-depth-requires
+    (search needs)
     returns-2
-    outside-plane-requires
+    (search needs)
     mul-if3
     returns-3
     mul-of-blocks

@@ -18,12 +18,6 @@ use Rattle.satd.proofs.satd.Ends.{side-is}
 use Rattle.satd.proofs.satd.of_blocks.Statement.{statement}
 use Rattle.satd.proofs.satd.of_blocks.Tie as tie
 
-any-block-requires : tie.Need-any-block-requires
-any-block-requires c κs = search needs
-
-shr-if1 : tie.Need-shr-if1
-shr-if1 c = search needs
-
 -- what is answered by the number of SAMPLE, n
 abbrev answered : tie.Start → ℕ → Reply ℕ
 answered s n =
@@ -34,9 +28,6 @@ answered s n =
 returns : tie.Need-returns
 unfolding rest
 returns c = ap (answered (c .before .before .before .before)) (some-marked _ _ _ _ _ _ _ _ _ (c .before .any-block .ensures) (c .if1 .taken))
-
-side-requires : tie.Need-side-requires
-side-requires c κs = search needs
 
 -- the blocks are tested
 tested :
@@ -50,15 +41,6 @@ tested c =
 total-requires : tie.Need-total-requires
 total-requires c κs =
     let a = c .before .before .before .before .before .args in (subst Side (sym (c .side .ensures)) (side-is (a .w) (a .h)), tested c)
-
-sub-satd : tie.Need-sub-satd
-sub-satd c = search needs
-
-cast-satd : tie.Need-cast-satd
-cast-satd c = search needs
-
-shr-satd : tie.Need-shr-satd
-shr-satd c = search needs
 
 chosen : (r n m w h : ℕ) (d : ℕ → ℕ → ℤ) → n ≡ m → r ≡ satdTotal n w h d → r ≡ satdTotal m w h d
 chosen r n m w h d e f = f ∙ ap (λ (k : ℕ). satdTotal k w h d) e
@@ -94,13 +76,13 @@ pub of-blocks-spec : {M : Type 1} → statement M
 of-blocks-spec =
     tie.close
     (tie.spec
-    any-block-requires
-    shr-if1
+    (search needs)
+    (search needs)
     returns
-    side-requires
+    (search needs)
     total-requires
-    sub-satd
-    cast-satd
-    shr-satd
+    (search needs)
+    (search needs)
+    (search needs)
     cast-satd-2
     returns-2)

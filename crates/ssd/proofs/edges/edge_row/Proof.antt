@@ -8,23 +8,11 @@ use borrow.Author.Needs.{needs}
 use Rattle.ssd.proofs.edges.edge_row.Statement.{statement}
 use Rattle.ssd.proofs.edges.edge_row.Tie as tie
 
-array-borrow-prefix-one : tie.Need-array-borrow-prefix-one
-array-borrow-prefix-one c = search needs
-
 slice-aggregate-edge-row : tie.Need-slice-aggregate-edge-row
 slice-aggregate-edge-row c = line-room _ _ (c .before .before .before .pre .0)
 
-edge-row-requires : tie.Need-edge-row-requires
-edge-row-requires c κs = search needs
-
-array-borrow-prefix-two : tie.Need-array-borrow-prefix-two
-array-borrow-prefix-two c = search needs
-
 slice-aggregate-edge-row-2 : tie.Need-slice-aggregate-edge-row-2
 slice-aggregate-edge-row-2 c = line-room _ _ (c .before .before .before .before .before .before .pre .0)
-
-edge-row-requires-2 : tie.Need-edge-row-requires-2
-edge-row-requires-2 c κs = search needs
 
 array-share-prefix-one : tie.Need-array-share-prefix-one
 array-share-prefix-one c = line-long _ _ (c .before .before .before .before .before .before .before .before .pre .0) _ _ (c .before .before .before .before .edge-row .ensures)
@@ -61,12 +49,12 @@ pub edge-row-spec : {M : Type 1} → statement M
 edge-row-spec =
     tie.close
     (tie.spec
-    array-borrow-prefix-one
+    (search needs)
     slice-aggregate-edge-row
-    edge-row-requires
-    array-borrow-prefix-two
+    (search needs)
+    (search needs)
     slice-aggregate-edge-row-2
-    edge-row-requires-2
+    (search needs)
     array-share-prefix-one
     slice-aggregate-ssd-row
     array-share-prefix-two

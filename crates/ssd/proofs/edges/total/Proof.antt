@@ -22,17 +22,8 @@ inside1 c = let s = c .before .before .before .before .before in stands-in (s .a
 inside2 : (c : tie.After-row-start) → let a = c .before .before .before .before .before .args in c .row-start .result .row * a .stride2 + c .row-start .result .column < length (a .two .now)
 inside2 c = let s = c .before .before .before .before .before in stands-in (s .args .stride2) (s .fits .x) (s .fits .y) (c .row-start .ensures) (s .pre .1 .0)
 
-negative-requires : tie.Need-negative-requires
-negative-requires c κs = search needs
-
-edge-rows-requires : tie.Need-edge-rows-requires
-edge-rows-requires c κs = search needs
-
 returns : tie.Need-returns
 returns c = let f = c .before .before .before .before .before .fits in rw (toZ-ofZ (f .x), toZ-ofZ (f .y)) at (c .edge-rows .ensures)
-
-row-start-requires : tie.Need-row-start-requires
-row-start-requires c κs = search needs
 
 mul-p : tie.Need-mul-p
 mul-p c = omega (arith, inside1 c, c .before .before .before .before .before .good)
@@ -73,10 +64,10 @@ pub total-spec : {M : Type 1} → statement M
 total-spec =
     tie.close
     (tie.spec
-    negative-requires
-    edge-rows-requires
+    (search needs)
+    (search needs)
     returns
-    row-start-requires
+    (search needs)
     mul-p
     add-p
     mul-q

@@ -9,12 +9,6 @@ use borrow.Author.Needs.{needs}
 use Rattle.ssd.proofs.rows.share.Statement.{statement}
 use Rattle.ssd.proofs.rows.share.Tie as tie
 
-square-requires : tie.Need-square-requires
-square-requires c κs = search needs
-
-shr-s : tie.Need-shr-s
-shr-s c = search needs
-
 returns : tie.Need-returns
 unfolding squared
 returns c =
@@ -27,4 +21,4 @@ unfolding squared
 returns-2 c = ap (λ (n : ℕ). n / 2 ^ c .before .before .args .shift) (c .before .square .ensures)
 
 pub share-spec : {M : Type 1} → statement M
-share-spec = tie.close (tie.spec square-requires shr-s returns returns-2)
+share-spec = tie.close (tie.spec (search needs) (search needs) returns returns-2)

@@ -27,12 +27,6 @@ no-square-negative : (z : ℤ) → pos 0 ≤ℤ (z *ℤ z)
 no-square-negative (pos n) = nat-≤ (omega arith)
 no-square-negative (negsuc n) = nat-≤ (omega arith)
 
-cast-d : tie.Need-cast-d
-cast-d c = search needs
-
-cast-d-2 : tie.Need-cast-d-2
-cast-d-2 c = search needs
-
 sub-d : tie.Need-sub-d
 sub-d c = fit (ρ c) w16 d tt
 
@@ -52,4 +46,4 @@ returns c =
     ap natAbs (reads (ρ c) (loc w32 (mul e e)) tt) ∙ abs-mul z z
 
 pub square-spec : {M : Type 1} → statement M
-square-spec = tie.close (tie.spec cast-d cast-d-2 sub-d cast-e mul-result cast-result returns)
+square-spec = tie.close (tie.spec (search needs) (search needs) sub-d cast-e mul-result cast-result returns)

@@ -112,9 +112,6 @@ loop-less c = omega arith
 loop-again : tie.Need-loop-again Inv-loop μ-loop
 loop-again c = running-step (c .before .before .before .before .loop .inv) (omega arith) (summand c) refl (most c)
 
-cast-all : tie.Need-cast-all Inv-loop μ-loop
-cast-all c = search needs
-
 returns : tie.Need-returns Inv-loop μ-loop
 returns c = running-end (c .before .loop .inv) (omega arith) (c .before .before .before .before .before .pre .0 .small)
 
@@ -137,5 +134,5 @@ ssd-row-spec =
     add-i
     loop-less
     loop-again
-    cast-all
+    (search needs)
     returns)

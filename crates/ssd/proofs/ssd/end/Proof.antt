@@ -7,14 +7,8 @@ use borrow.Author.Needs.{needs}
 use Rattle.ssd.proofs.ssd.end.Statement.{statement}
 use Rattle.ssd.proofs.ssd.end.Tie as tie
 
-bad-samples-requires : tie.Need-bad-samples-requires
-bad-samples-requires c κs = search needs
-
 returns : tie.Need-returns
 returns c = rw (sym (c .before .bad-samples .ensures) ∙ c .if1 .taken)
-
-cast-ssd : tie.Need-cast-ssd
-cast-ssd c = search needs
 
 returns-2 : tie.Need-returns-2
 returns-2 c =
@@ -22,4 +16,4 @@ returns-2 c =
     rw (toZ-pos w64 {n = s .args .t .sum} (omega (arith, s .pre)), sym (c .before .before .bad-samples .ensures) ∙ c .before .if1 .left)
 
 pub end-spec : {M : Type 1} → statement M
-end-spec = tie.close (tie.spec bad-samples-requires returns cast-ssd returns-2)
+end-spec = tie.close (tie.spec (search needs) returns (search needs) returns-2)

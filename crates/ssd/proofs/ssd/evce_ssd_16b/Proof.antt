@@ -47,9 +47,6 @@ two :
     ≡ false
 two c = sym (c .before .outside-plane2 .ensures) ∙ c .if4 .left
 
-bad-logs-requires : tie.Need-bad-logs-requires
-bad-logs-requires c κs = search needs
-
 returns : tie.Need-returns
 returns c =
     let a = c .before .before .before .before .args in
@@ -61,17 +58,11 @@ shl-w c = let a = c .before .before .before .before .args in omega (arith, logs-
 shl-h : tie.Need-shl-h
 shl-h c = let a = c .before .before .before .before .args in omega (arith, logs-small (a .log2-w) (a .log2-h) (sized c) .1)
 
-bad-depth-requires : tie.Need-bad-depth-requires
-bad-depth-requires c κs = search needs
-
 returns-2 : tie.Need-returns-2
 returns-2 c =
     let s = c .before .before in
     let a = s .before .before .before .before .args in
     ssd-depth (a .log2-w) (a .log2-h) (a .depth) (A (s .before .before)) (B (s .before .before)) (sized s) (sym (c .before .bad-depth .ensures) ∙ c .if2 .taken)
-
-outside-plane-requires : tie.Need-outside-plane-requires
-outside-plane-requires c κs = search needs
 
 returns-3 : tie.Need-returns-3
 returns-3 c =
@@ -79,9 +70,6 @@ returns-3 c =
     let a = s .before .before .before .before .args in
     ssd-area (a .log2-w) (a .log2-h) (a .depth) (A (s .before .before)) (B (s .before .before)) (sized s) (deep (c .before .before))
     (sym (c .before .outside-plane .ensures) ∙ c .if3 .taken)
-
-outside-plane-requires-2 : tie.Need-outside-plane-requires-2
-outside-plane-requires-2 c κs = search needs
 
 returns-4 : tie.Need-returns-4
 returns-4 c =
@@ -132,15 +120,15 @@ pub evce-ssd-16b-spec : {M : Type 1} → statement M
 evce-ssd-16b-spec =
     tie.close
     (tie.spec
-    bad-logs-requires
+    (search needs)
     returns
     shl-w
     shl-h
-    bad-depth-requires
+    (search needs)
     returns-2
-    outside-plane-requires
+    (search needs)
     returns-3
-    outside-plane-requires-2
+    (search needs)
     returns-4
     mul-ssd-block
     add-ssd-block

@@ -52,9 +52,6 @@ two c =
     let f = c .before .before .before .before .before .before .before .before .before .before .fits in
     rw (toZ-ofZ (f .x), toZ-ofZ (f .y)) at (sym (c .before .outside-edges2 .ensures) ∙ c .if4 .left)
 
-bad-logs-requires : tie.Need-bad-logs-requires
-bad-logs-requires c κs = search needs
-
 returns : tie.Need-returns
 returns c =
     let a = c .before .before .before .before .args in
@@ -66,17 +63,11 @@ shl-w c = let a = c .before .before .before .before .args in omega (arith, logs-
 shl-h : tie.Need-shl-h
 shl-h c = let a = c .before .before .before .before .args in omega (arith, logs-small (a .log2-w) (a .log2-h) (sized c) .1)
 
-bad-depth-requires : tie.Need-bad-depth-requires
-bad-depth-requires c κs = search needs
-
 returns-2 : tie.Need-returns-2
 returns-2 c =
     let s = c .before .before in
     let a = s .before .before .before .before .args in
     ssd-depth (a .log2-w) (a .log2-h) (a .depth) (A (s .before .before)) (B (s .before .before)) (sized s) (sym (c .before .bad-depth .ensures) ∙ c .if2 .taken)
-
-outside-edges-requires : tie.Need-outside-edges-requires
-outside-edges-requires c κs = search needs
 
 returns-3 : tie.Need-returns-3
 returns-3 c =
@@ -85,9 +76,6 @@ returns-3 c =
     let a = t .args in
     ssd-area (a .log2-w) (a .log2-h) (a .depth) (A (s .before .before)) (B (s .before .before)) (sized s) (deep (c .before .before))
     (rw (toZ-ofZ (t .fits .x), toZ-ofZ (t .fits .y)) at (sym (c .before .outside-edges .ensures) ∙ c .if3 .taken))
-
-outside-edges-requires-2 : tie.Need-outside-edges-requires-2
-outside-edges-requires-2 c κs = search needs
 
 returns-4 : tie.Need-returns-4
 returns-4 c =
@@ -140,15 +128,15 @@ pub evce-ssd-16i-spec : {M : Type 1} → statement M
 evce-ssd-16i-spec =
     tie.close
     (tie.spec
-    bad-logs-requires
+    (search needs)
     returns
     shl-w
     shl-h
-    bad-depth-requires
+    (search needs)
     returns-2
-    outside-edges-requires
+    (search needs)
     returns-3
-    outside-edges-requires-2
+    (search needs)
     returns-4
     total-requires
     end-requires
