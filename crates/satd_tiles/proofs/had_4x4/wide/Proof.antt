@@ -13,18 +13,6 @@ use Rattle.satd_tiles.proofs.had_4x4.wide.Tie as tie
 abbrev ρ : tie.After-result → ℕ → Known
 ρ c = env (arg w16 (entry (c .before .args .diff .now) (c .before .args .j) (c .before .args .i)) (record { sfits = c .result .given }) ∷ [])
 
-mul-result : tie.Need-mul-result
-mul-result c = search needs
-
-mul-result-2 : tie.Need-mul-result-2
-mul-result-2 c = search needs
-
-index-1-result : tie.Need-index-1-result
-index-1-result c = search needs
-
-index-2-result : tie.Need-index-2-result
-index-2-result c = search needs
-
 cast-result : tie.Need-cast-result
 cast-result c = fit (ρ c) w32 (var 0) tt
 
@@ -32,4 +20,4 @@ returns : tie.Need-returns
 returns c = reads (ρ c) (loc w32 (var 0)) tt
 
 pub wide-spec : {M : Type 1} → statement M
-wide-spec = tie.close (tie.spec mul-result mul-result-2 index-1-result index-2-result cast-result returns)
+wide-spec = tie.close (tie.spec (search needs) (search needs) (search needs) (search needs) cast-result returns)
