@@ -1,2 +1,2 @@
--- Laws of this crate's own loop, and what a caller cites.
+-- What a caller cites.
 pub mod Calls

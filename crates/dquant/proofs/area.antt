@@ -1,2 +1,2 @@
--- Laws that only the proofs of `area` cite.
+-- An area that goes four at a time: what the runs of four leave is what one run leaves.
 pub mod Fours

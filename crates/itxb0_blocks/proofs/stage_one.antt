@@ -1,2 +1,2 @@
--- Laws that only the proofs of `stage_one` cite.
+-- Stage one by blocks of 16 lines: what a block's sums are.
 pub mod Products

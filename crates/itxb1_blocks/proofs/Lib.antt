@@ -1,6 +1,2 @@
--- The laws of stage two by blocks of 16 lines.
-
--- an input's two halves
+-- Stage two by the inputs' halves: what the two halves of an input are.
 pub mod Parts
-
--- what a block's sums are

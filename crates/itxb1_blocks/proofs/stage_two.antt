@@ -1,2 +1,2 @@
--- Laws that only the proofs of `stage_two` cite.
+-- Stage two by blocks of 16 lines: what a block's sums are.
 pub mod Products

@@ -1,2 +1,2 @@
--- Laws that only the proofs of `wide` cite.
+-- The sums of a line: the halving step with a number added.
 pub mod Raised

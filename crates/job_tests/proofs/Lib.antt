@@ -1,2 +1,2 @@
--- Laws that the proofs of this crate and of its callers share: a job's tests one by one, its area as code computes it, the components' tests.
+-- The area of a job as code computes it: cited here and by the calls.
 pub mod Areas

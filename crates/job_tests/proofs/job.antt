@@ -1,2 +1,2 @@
--- Laws that only the proofs of `job` cite.
+-- The number of a job, test by test.
 pub mod Laws

@@ -1,2 +1,2 @@
--- Laws that only the proofs of `pairs` cite.
+-- Two areas that share a sample, as the code asks it.
 pub mod Overlaps

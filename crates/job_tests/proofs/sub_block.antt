@@ -1,2 +1,2 @@
--- Laws that only the proofs of `sub_block` cite.
+-- The answer of a sub-block as the code finds it: component by component, then the pairs.
 pub mod SubTests

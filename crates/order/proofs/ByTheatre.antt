@@ -7,7 +7,8 @@ use mathlib.Core.Path.{_≡_, refl, sym, ap, subst, _∙_}
 use mathlib.Core.HLevel.{Discrete, Π-prop, ⊥-prop}
 use mathlib.Core.Logic.{⊎-elim, ∥∥₁-elim, ite}
 use mathlib.Core.Bool.{Bool-set, true, false}
-use mathlib.Core.List.{List, [], _∷_, map, List·Mem, List·Memᴰ, List·Memᴰ·head, List·Memᴰ·tail, List·isSet, mem-filter, Perm, List·Permᴰ, List·Permᴰ·nil, List·Permᴰ·cons, List·Permᴰ·swap, List·Permᴰ·trans, Permᴰ·pairwise, Pairwise, Pairwise·cons, Pairwise·imp, Pairwise·forall-of-forall-of-flip}
+use mathlib.Core.List.{List, [], _∷_, map, List·Mem, List·Memᴰ, List·Memᴰ·head, List·Memᴰ·tail, List·isSet, mem-filter}
+use mathlib.Core.List.{Perm, List·Permᴰ, List·Permᴰ·nil, List·Permᴰ·cons, List·Permᴰ·swap, List·Permᴰ·trans, Permᴰ·pairwise, Pairwise, Pairwise·cons, Pairwise·imp, Pairwise·forall-of-forall-of-flip}
 use lib.ListN.{length, getD}
 use lib.Seq.{ext-getD}
 use Rattle.order.specs.Jobs.{Kind, Lawful, after, jobs, answers, samples, owns, Apart, Separate, Ended}

@@ -16,7 +16,8 @@ use lib.Seq.{length-take-le, drop-cons, drop-drop, sets, sets-eq}
 use borrow.Author.Tests.{eqb-false}
 use Rattle.order.specs.Positions.{row, rows, reach, has, shared, Distinct, Ascending, Below, gather, put, change}
 use Rattle.integers.proofs.Bools.{by-test, same-test, or-cases, or-left}
-use Rattle.order.proofs.Positions.{has-tail, has-cases, has-append, below-append, ascending-cons, ascending-append, ascending-distinct, ascending-same, gather-append, put-append, length-put, shared-both, both-shared, shared-ascending, shared-none-append}
+use Rattle.order.proofs.Positions.{has-tail, has-cases, has-append, below-append, ascending-cons, ascending-append, ascending-distinct}
+use Rattle.order.proofs.Positions.{ascending-same, gather-append, put-append, length-put, shared-both, both-shared, shared-ascending, shared-none-append}
 
 -- ---- one row
 pub has-row : (a m p : ℕ) → has (row a m) p ≡ true → (a ≤ p) × (p < a + m)

@@ -53,4 +53,4 @@ returns : tie.Need-returns
 returns c = rw (back w64 (c .max-i64 .result) (c .max-i64 .ok), given c)
 
 pub abs-i32-spec : {M : Type 1} → statement M
-abs-i32-spec = tie.close (tie.spec cast-y sub-minus (search needs) cast-result returns)
+abs-i32-spec = tie.close (tie.spec cast-y sub-minus (λ c κs. search needs) cast-result returns)

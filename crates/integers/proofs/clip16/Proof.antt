@@ -29,4 +29,4 @@ returns : tie.Need-returns
 returns c = rw (back w64 (c .min-i64 .result) (c .min-i64 .ok)) (toZ-ofZ (fits c) ∙ clipped c)
 
 pub clip16-spec : {M : Type 1} → statement M
-clip16-spec = tie.close (tie.spec (search needs) (search needs) cast-result returns)
+clip16-spec = tie.close (tie.spec (λ c κs. search needs) (λ c κs. search needs) cast-result returns)

@@ -57,4 +57,4 @@ returns-4 c =
 
 pub sad-answer-spec : {M : Type 1} → statement M
 sad-answer-spec =
-    tie.close (tie.spec (search needs) returns (search needs) returns-2 sub-sad cast-sad shr-sad returns-3 cast-value returns-4)
+    tie.close (tie.spec (λ c κs. search needs) returns (λ c κs. search needs) returns-2 sub-sad cast-sad shr-sad returns-3 cast-value returns-4)

@@ -18,4 +18,4 @@ unfolding tileSide
 returns-3 c = rw (sym (c .before .before .before .multiples .ensures) ∙ c .before .before .if1 .left, sym (c .before .multiples2 .ensures) ∙ c .if2 .left)
 
 pub side-spec : {M : Type 1} → statement M
-side-spec = tie.close (tie.spec (search needs) returns (search needs) returns-2 returns-3)
+side-spec = tie.close (tie.spec (λ c κs. search needs) returns (λ c κs. search needs) returns-2 returns-3)

@@ -57,4 +57,4 @@ returns-2 c =
     (ap value (eqZ→eq _ _ (below-at right 64 all-right (c .before .before .before .args .qp) (omega arith))))
 
 pub scale-spec : {M : Type 1} → statement M
-scale-spec = tie.close (tie.spec returns (search needs) (search needs) returns-2)
+scale-spec = tie.close (tie.spec returns (λ c. search needs) (λ c. search needs) returns-2)

@@ -23,4 +23,4 @@ returns-2 : tie.Need-returns-2
 returns-2 c = no-value (c .before .before .scale .result) _ (c .before .match .keys2) (c .before .before .scale .ensures)
 
 pub scale-of-spec : {M : Type 1} → statement M
-scale-of-spec = tie.close (tie.spec (search needs) (search needs) (search needs) returns returns-2)
+scale-of-spec = tie.close (tie.spec (λ c κs. search needs) (λ c. search needs) (λ c. search needs) returns returns-2)

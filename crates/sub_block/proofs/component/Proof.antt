@@ -67,16 +67,16 @@ pub component-spec : {M : Type 1} → statement M
 component-spec =
     tie.close
     (tie.spec
-    (search needs)
+    (λ c κs. search needs)
     add-end
     shl-end
     add-end-2
     mul-part
-    (search needs)
-    (search needs)
+    (λ c. search needs)
+    (λ c. search needs)
     part-part-end
-    (search needs)
-    (search needs)
-    (search needs)
+    (λ c κs. search needs)
+    (λ c κs. search needs)
+    (λ c. search needs)
     returns
-    (search needs))
+    (λ c. search needs))

@@ -71,15 +71,15 @@ pub evc-sub-block-itdq2-spec : {M : Type 1} → statement M
 evc-sub-block-itdq2-spec =
     tie.close
     (tie.spec
-    (search needs)
-    (search needs)
+    (λ c κs. search needs)
+    (λ c. search needs)
     returns
-    (search needs)
-    (search needs)
+    (λ c. search needs)
+    (λ c κs. search needs)
     component-requires
-    (search needs)
+    (λ c κs. search needs)
     component-requires-2
-    (search needs)
+    (λ c κs. search needs)
     component-requires-3
-    (search needs)
+    (λ c. search needs)
     returns-2)

@@ -80,4 +80,4 @@ returns-3 c =
 pub minus-spec : {M : Type 1} → statement M
 minus-spec =
     tie.close
-    (tie.spec (search needs) (search needs) sub-d add-result cast-result sub-result cast-result-2 cast-result-3 returns returns-2 returns-3)
+    (tie.spec (λ c. search needs) (λ c. search needs) sub-d add-result cast-result sub-result cast-result-2 cast-result-3 returns returns-2 returns-3)

@@ -43,4 +43,4 @@ returns-2 c =
     ap natAbs (reads (ρ (c .before)) (loc w32 at) tt) ∙ edge-pos (c .before .args .p +ℤ pos (c .before .args .i)) (above c)
 
 pub edge-spec : {M : Type 1} → statement M
-edge-spec = tie.close (tie.spec cast-at (search needs) add-at cast-result returns returns-2)
+edge-spec = tie.close (tie.spec cast-at (λ c. search needs) add-at cast-result returns returns-2)

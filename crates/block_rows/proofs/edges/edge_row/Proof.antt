@@ -22,4 +22,4 @@ returns-2 c =
     c .before .before .long-row .ensures ∙ ap (λ (z : ℤ). tab (length (a .out .now)) (λ i. getD (a .row .now) (edge (z +ℤ pos i)) 0)) (toZ-ofZ (s .fits .x))
 
 pub edge-row-spec : {M : Type 1} → statement M
-edge-row-spec = tie.close (tie.spec (search needs) (search needs) (search needs) returns (search needs) returns-2)
+edge-row-spec = tie.close (tie.spec (λ c κs. search needs) (λ c κs. search needs) (λ c. search needs) returns (λ c. search needs) returns-2)

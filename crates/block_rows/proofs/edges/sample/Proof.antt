@@ -10,4 +10,4 @@ returns-2 : tie.Need-returns-2
 returns-2 c = sym (List·getD-eq-default (c .before .args .row .now) 0 {n = c .before .args .at} (omega arith))
 
 pub sample-spec : {M : Type 1} → statement M
-sample-spec = tie.close (tie.spec (search needs) (search needs) (search needs) returns-2)
+sample-spec = tie.close (tie.spec (λ c. search needs) (λ c. search needs) (λ c. search needs) returns-2)

@@ -27,4 +27,4 @@ returns-2 c =
     }
 
 pub tell-squared-spec : {M : Type 1} → statement M
-tell-squared-spec = tie.close (tie.spec (search needs) (search needs) (search needs) returns returns-2)
+tell-squared-spec = tie.close (tie.spec (λ c. search needs) (λ c. search needs) (λ c κs. search needs) returns returns-2)

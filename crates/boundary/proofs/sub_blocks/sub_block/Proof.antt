@@ -11,4 +11,4 @@ returns c =
     simp (toZ-ofZ, c .before .before .part .ensures, c .before .part2 .ensures, c .part3 .ensures) refl
 
 pub sub-block-spec : {M : Type 1} → statement M
-sub-block-spec = tie.close (tie.spec (search needs) (search needs) (search needs) returns)
+sub-block-spec = tie.close (tie.spec (λ c κs. search needs) (λ c κs. search needs) (λ c κs. search needs) returns)

@@ -10,4 +10,4 @@ cast-result : tie.Need-cast-result
 cast-result c = fit (env (arg w16 (c .args .v) (c .fits .v) ∷ [])) w64 (var 0) tt
 
 pub wide-16-spec : {M : Type 1} → statement M
-wide-16-spec = tie.close (tie.spec cast-result (search needs))
+wide-16-spec = tie.close (tie.spec cast-result (λ c. search needs))

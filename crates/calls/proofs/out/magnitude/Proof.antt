@@ -57,4 +57,4 @@ cast-result-2 : tie.Need-cast-result-2
 cast-result-2 c = let f = c .before .fits .v in simp toZ-ofZ (whole (c .before .args .v) f (simp toZ-ofZ at (c .if1 .left)))
 
 pub magnitude-spec : {M : Type 1} → statement M
-magnitude-spec = tie.close (tie.spec sub-less cast-result add-result (search needs) cast-result-2 (search needs))
+magnitude-spec = tie.close (tie.spec sub-less cast-result add-result (λ c. search needs) cast-result-2 (λ c. search needs))

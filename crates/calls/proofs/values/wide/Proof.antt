@@ -18,10 +18,10 @@ pub wide-spec : {M : Type 1} → statement M
 wide-spec =
     tie.close
     (tie.spec
-    (search needs)
-    (search needs)
-    (search needs)
-    (search needs)
+    (λ c. search needs)
+    (λ c. search needs)
+    (λ c. search needs)
+    (λ c. search needs)
     sub-result
-    (search needs)
-    (search needs))
+    (λ c. search needs)
+    (λ c. search needs))

@@ -13,4 +13,4 @@ returns c =
     told-as (simp toZ-ofZ at (c .before .before .evce-sad-16b .ensures)) (c .tell-distortion .ensures)
 
 pub tv-sad-16b-spec : {M : Type 1} → statement M
-tv-sad-16b-spec = tie.close (tie.spec (search needs) (search needs) returns)
+tv-sad-16b-spec = tie.close (tie.spec (λ c κs. search needs) (λ c κs. search needs) returns)

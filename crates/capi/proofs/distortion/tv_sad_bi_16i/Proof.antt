@@ -8,4 +8,4 @@ returns : tie.Need-returns
 returns c = told-as (c .before .before .evce-sad-bi-16i .ensures) (c .tell-distortion .ensures)
 
 pub tv-sad-bi-16i-spec : {M : Type 1} → statement M
-tv-sad-bi-16i-spec = tie.close (tie.spec (search needs) (search needs) returns)
+tv-sad-bi-16i-spec = tie.close (tie.spec (λ c κs. search needs) (λ c κs. search needs) returns)

@@ -8,4 +8,4 @@ returns : tie.Need-returns
 returns c = told-as (c .before .before .evce-satd-16b .ensures) (c .tell-distortion .ensures)
 
 pub tv-satd-spec : {M : Type 1} → statement M
-tv-satd-spec = tie.close (tie.spec (search needs) (search needs) returns)
+tv-satd-spec = tie.close (tie.spec (λ c κs. search needs) (λ c κs. search needs) returns)

@@ -8,4 +8,4 @@ returns : tie.Need-returns
 returns c = told-as (c .before .before .evce-ssd-16b .ensures) (c .tell-squared .ensures)
 
 pub tv-ssd-16b-spec : {M : Type 1} → statement M
-tv-ssd-16b-spec = tie.close (tie.spec (search needs) (search needs) returns)
+tv-ssd-16b-spec = tie.close (tie.spec (λ c κs. search needs) (λ c κs. search needs) returns)

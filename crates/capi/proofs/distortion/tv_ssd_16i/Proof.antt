@@ -13,4 +13,4 @@ returns c =
     told-as (simp toZ-ofZ at (c .before .before .evce-ssd-16i .ensures)) (c .tell-squared .ensures)
 
 pub tv-ssd-16i-spec : {M : Type 1} → statement M
-tv-ssd-16i-spec = tie.close (tie.spec (search needs) (search needs) returns)
+tv-ssd-16i-spec = tie.close (tie.spec (λ c κs. search needs) (λ c κs. search needs) returns)

@@ -18,8 +18,8 @@ pub tv-sub-block-spec : {M : Type 1} → statement M
 tv-sub-block-spec =
     tie.close
     (tie.spec
-    (search needs)
-    (search needs)
-    (search needs)
-    (search needs)
+    (λ c κs. search needs)
+    (λ c κs. search needs)
+    (λ c κs. search needs)
+    (λ c. search needs)
     returns)

@@ -14,4 +14,4 @@ returns c =
     (c .answer-number .ensures ∙ done .0, done .1)
 
 pub tv-dquant-spec : {M : Type 1} → statement M
-tv-dquant-spec = tie.close (tie.spec (search needs) (search needs) (search needs) returns)
+tv-dquant-spec = tie.close (tie.spec (λ c κs. search needs) (λ c κs. search needs) (λ c. search needs) returns)

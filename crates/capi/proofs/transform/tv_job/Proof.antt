@@ -13,4 +13,4 @@ returns c =
     (c .answer-number .ensures ∙ done .0, done .1)
 
 pub tv-job-spec : {M : Type 1} → statement M
-tv-job-spec = tie.close (tie.spec (search needs) (search needs) (search needs) (search needs) returns)
+tv-job-spec = tie.close (tie.spec (λ c κs. search needs) (λ c κs. search needs) (λ c κs. search needs) (λ c. search needs) returns)

@@ -160,17 +160,17 @@ pub evce-diff-16b-spec : {M : Type 1} → statement M
 evce-diff-16b-spec =
     tie.close
     (tie.spec
-    (search needs)
+    (λ c κs. search needs)
     returns
     shl-w
     shl-h
-    (search needs)
+    (λ c κs. search needs)
     returns-2
     mul-n
-    (search needs)
+    (λ c κs. search needs)
     returns-3
     mul-of-blocks
     add-of-blocks
     of-blocks-requires
-    (search needs)
+    (λ c. search needs)
     returns-4)

@@ -44,16 +44,16 @@ of-blocks-spec =
     of-width-requires-3
     of-four-requires
     of-width-requires-4
-    (search needs)
-    (search needs)
+    (λ c κs. search needs)
+    (λ c. search needs)
     returns
-    (search needs)
+    (λ c. search needs)
     returns-2
-    (search needs)
+    (λ c. search needs)
     returns-3
-    (search needs)
+    (λ c. search needs)
     returns-4
-    (search needs)
+    (λ c. search needs)
     returns-5
-    (search needs)
-    (search needs))
+    (λ c. search needs)
+    (λ c. search needs))

@@ -12,4 +12,4 @@ returns : tie.Need-returns
 returns c = sides-left _ _ refl (c .before .before .before .if1 .taken) (c .before .of-width .ensures)
 
 pub of-four-spec : {M : Type 1} → statement M
-of-four-spec = tie.close (tie.spec of-width-requires (search needs) returns (search needs) (search needs) (search needs))
+of-four-spec = tie.close (tie.spec of-width-requires (λ c. search needs) returns (λ c κs. search needs) (λ c. search needs) (λ c. search needs))

@@ -24,4 +24,4 @@ returns-2 c =
 pub of-width-spec : {M : Type 1} → statement M
 of-width-spec =
     tie.close
-    (tie.spec (search needs) (search needs) returns diff-rows-requires (search needs) returns-2)
+    (tie.spec (λ c κs. search needs) (λ c. search needs) returns diff-rows-requires (λ c. search needs) returns-2)

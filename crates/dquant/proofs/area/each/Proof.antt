@@ -84,7 +84,7 @@ each-spec =
     (tie.spec
     Inv-loop
     μ-loop
-    (search needs)
+    (λ c κs. search needs)
     loop-holds
     mul-k
     add-run
@@ -96,7 +96,7 @@ each-spec =
     add-i
     loop-less
     loop-again
-    (search needs)
+    (λ c. search needs)
     returns
     same-length-2
     returns-2)

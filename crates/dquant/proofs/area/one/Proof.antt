@@ -43,4 +43,4 @@ returns c =
     ∙ ap clip16 (reads (ρ (c .before)) (loc w64 (shr (loc w64 sum) (c .before .args .shift))) tt)
 
 pub one-spec : {M : Type 1} → statement M
-one-spec = tie.close (tie.spec cast-sum cast-sum-2 mul-sum cast-sum-3 add-sum (search needs) (search needs) (search needs) returns)
+one-spec = tie.close (tie.spec cast-sum cast-sum-2 mul-sum cast-sum-3 add-sum (λ c. search needs) (λ c. search needs) (λ c κs. search needs) returns)

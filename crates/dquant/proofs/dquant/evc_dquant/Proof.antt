@@ -97,8 +97,8 @@ evc-dquant-spec =
     add-n
     shl-n
     returns-3
-    (search needs)
+    (λ c. search needs)
     slice-aggregate-each
-    (search needs)
-    (search needs)
+    (λ c κs. search needs)
+    (λ c. search needs)
     returns-4)

@@ -36,20 +36,20 @@ pub both-stages-spec : {M : Type 1} → statement M
 both-stages-spec =
     tie.close
     (tie.spec
-    (search needs)
+    (λ c. search needs)
     slice-aggregate-stages-over
-    (search needs)
-    (search needs)
+    (λ c κs. search needs)
+    (λ c. search needs)
     slice-aggregate-stages-over-2
-    (search needs)
-    (search needs)
-    (search needs)
-    (search needs)
+    (λ c κs. search needs)
+    (λ c κs. search needs)
+    (λ c κs. search needs)
+    (λ c. search needs)
     returns
-    (search needs)
+    (λ c. search needs)
     returns-2
-    (search needs)
+    (λ c. search needs)
     returns-3
-    (search needs)
+    (λ c. search needs)
     returns-4
     returns-5)

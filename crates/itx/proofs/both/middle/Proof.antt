@@ -17,4 +17,4 @@ returns c =
 pub middle-spec : {M : Type 1} → statement M
 middle-spec =
     tie.close
-    (tie.spec (search needs) slice-aggregate-stages-over (search needs) (search needs) returns)
+    (tie.spec (λ c. search needs) slice-aggregate-stages-over (λ c κs. search needs) (λ c. search needs) returns)

@@ -8,4 +8,4 @@ returns : tie.Need-returns
 returns c = c .before .itxb1 .ensures .1 ∙ rw (c .before .before .before .before .before .itxb0 .ensures .1)
 
 pub stages-over-spec : {M : Type 1} → statement M
-stages-over-spec = tie.close (tie.spec (search needs) (search needs) (search needs) (search needs) returns)
+stages-over-spec = tie.close (tie.spec (λ c κs. search needs) (λ c κs. search needs) (λ c. search needs) (λ c. search needs) returns)

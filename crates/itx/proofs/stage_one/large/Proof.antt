@@ -60,13 +60,13 @@ pub large-spec : {M : Type 1} → statement M
 large-spec =
     tie.close
     (tie.spec
-    (search needs)
-    (search needs)
+    (λ c κs. search needs)
+    (λ c. search needs)
     returns
-    (search needs)
-    (search needs)
+    (λ c κs. search needs)
+    (λ c. search needs)
     returns-2
-    (search needs)
-    (search needs)
-    (search needs)
+    (λ c κs. search needs)
+    (λ c κs. search needs)
+    (λ c. search needs)
     returns-3)

@@ -44,4 +44,4 @@ returns-3 c =
     tested k true (sym (eq-eqb (number k) 0 (sym (k .stage-two .ensures) ∙ is-passed (k .stage-two .result) (c .before .match .keys2))))
 
 pub takes-spec : {M : Type 1} → statement M
-takes-spec = tie.close (tie.spec returns (search needs) (search needs) returns-2 (search needs) returns-3)
+takes-spec = tie.close (tie.spec returns (λ c κs. search needs) (λ c. search needs) returns-2 (λ c. search needs) returns-3)

@@ -29,4 +29,4 @@ unfolding right
 returns c = eqZ→eq _ _ (below-at right 32 all-right (c .args .shift % 32) (mod-lt (c .args .shift) (omega arith)))
 
 pub rounding-spec : {M : Type 1} → statement M
-rounding-spec = tie.close (tie.spec (search needs) shl-result returns)
+rounding-spec = tie.close (tie.spec (λ c. search needs) shl-result returns)

@@ -9,4 +9,4 @@ unfolding stageOneNumber stageTwoNumber
 returns c = c .stage-two .ensures
 
 pub stage-one-spec : {M : Type 1} → statement M
-stage-one-spec = tie.close (tie.spec (search needs) returns)
+stage-one-spec = tie.close (tie.spec (λ c κs. search needs) returns)

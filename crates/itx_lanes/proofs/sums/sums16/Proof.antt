@@ -11,4 +11,4 @@ returns : tie.Need-returns
 returns c = sums-are 16 refl (lit< tt) (lit≤ tt) _ _ (search needs) (c .level8 .ensures)
 
 pub sums16-spec : {M : Type 1} → statement M
-sums16-spec = tie.close (tie.spec (search needs) (search needs) returns)
+sums16-spec = tie.close (tie.spec (λ c κs. search needs) (λ c κs. search needs) returns)

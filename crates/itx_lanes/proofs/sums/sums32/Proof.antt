@@ -11,4 +11,4 @@ returns : tie.Need-returns
 returns c = sums-are 32 refl (lit< tt) (lit≤ tt) _ _ (search needs) (c .level16 .ensures)
 
 pub sums32-spec : {M : Type 1} → statement M
-sums32-spec = tie.close (tie.spec (search needs) (search needs) (search needs) returns)
+sums32-spec = tie.close (tie.spec (λ c κs. search needs) (λ c κs. search needs) (λ c κs. search needs) returns)

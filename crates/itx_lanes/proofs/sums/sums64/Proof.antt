@@ -11,4 +11,4 @@ returns : tie.Need-returns
 returns c = sums-are 64 refl (lit< tt) (lit≤ tt) _ _ (search needs) (c .level32 .ensures)
 
 pub sums64-spec : {M : Type 1} → statement M
-sums64-spec = tie.close (tie.spec (search needs) (search needs) (search needs) (search needs) returns)
+sums64-spec = tie.close (tie.spec (λ c κs. search needs) (λ c κs. search needs) (λ c κs. search needs) (λ c κs. search needs) returns)

@@ -14,4 +14,4 @@ returns c = built-in-sums 4 (omega arith) _ (c .before .before .before .before .
 
 pub built-in16-spec : {M : Type 1} → statement M
 built-in16-spec =
-    tie.close (tie.spec (search needs) (search needs) line16-requires (search needs) returns)
+    tie.close (tie.spec (λ c κs. search needs) (λ c. search needs) line16-requires (λ c. search needs) returns)

@@ -14,4 +14,4 @@ returns c = built-in-sums 5 (omega arith) _ (c .before .before .before .before .
 
 pub built-in32-spec : {M : Type 1} → statement M
 built-in32-spec =
-    tie.close (tie.spec (search needs) (search needs) line32-requires (search needs) returns)
+    tie.close (tie.spec (λ c κs. search needs) (λ c. search needs) line32-requires (λ c. search needs) returns)

@@ -45,9 +45,9 @@ pub built-in64-spec : {M : Type 1} → statement M
 built-in64-spec =
     tie.close
     (tie.spec
-    (search needs)
-    (search needs)
+    (λ c κs. search needs)
+    (λ c. search needs)
     half64-requires
     steps-requires
-    (search needs)
+    (λ c. search needs)
     returns)

@@ -24,10 +24,10 @@ pub line16-spec : {M : Type 1} → statement M
 line16-spec =
     tie.close
     (tie.spec
-    (search needs)
+    (λ c κs. search needs)
     steps-requires
     steps-requires-2
     steps-requires-3
     steps-requires-4
-    (search needs)
+    (λ c. search needs)
     returns)

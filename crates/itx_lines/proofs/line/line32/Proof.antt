@@ -44,7 +44,7 @@ pub line32-spec : {M : Type 1} → statement M
 line32-spec =
     tie.close
     (tie.spec
-    (search needs)
+    (λ c κs. search needs)
     steps-requires
     steps-requires-2
     steps-requires-3

@@ -105,5 +105,5 @@ start-spec =
     term-requires-4
     add-e-2
     slice-set-from-e-2
-    (search needs)
+    (λ c. search needs)
     returns)

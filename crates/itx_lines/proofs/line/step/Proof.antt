@@ -119,5 +119,5 @@ step-spec =
     sub-t15
     mul-t16
     slice-set-from-e-2
-    (search needs)
+    (λ c. search needs)
     returns)

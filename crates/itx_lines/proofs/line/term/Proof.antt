@@ -35,4 +35,4 @@ returns c =
 pub term-spec : {M : Type 1} → statement M
 term-spec =
     tie.close
-    (tie.spec (search needs) cast-result (search needs) (search needs) mul-result-2 returns)
+    (tie.spec (λ c. search needs) cast-result (λ c. search needs) (λ c. search needs) mul-result-2 returns)

@@ -77,15 +77,15 @@ pub itxb0-spec : {M : Type 1} → statement M
 itxb0-spec =
     tie.close
     (tie.spec
-    (search needs)
+    (λ c κs. search needs)
     shl-l
     itx-pb16b0-requires
     itx-pb32b0-requires
     itx-pb64b0-requires
-    (search needs)
+    (λ c. search needs)
     returns
-    (search needs)
+    (λ c. search needs)
     returns-2
-    (search needs)
+    (λ c. search needs)
     returns-3
     returns-4)

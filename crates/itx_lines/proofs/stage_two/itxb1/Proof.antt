@@ -93,16 +93,16 @@ pub itxb1-spec : {M : Type 1} → statement M
 itxb1-spec =
     tie.close
     (tie.spec
-    (search needs)
-    (search needs)
+    (λ c κs. search needs)
+    (λ c κs. search needs)
     shl-l
     itx-pb16b1-requires
     itx-pb32b1-requires
     itx-pb64b1-requires
-    (search needs)
+    (λ c. search needs)
     returns
-    (search needs)
+    (λ c. search needs)
     returns-2
-    (search needs)
+    (λ c. search needs)
     returns-3
     returns-4)

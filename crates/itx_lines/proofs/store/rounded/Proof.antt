@@ -34,4 +34,4 @@ returns c =
     ∙ ap (λ (y : ℤ). clip16 (shrZ (s .args .v +ℤ y) (2 ^ s .args .shift))) (s .pre .0 .is)
 
 pub rounded-spec : {M : Type 1} → statement M
-rounded-spec = tie.close (tie.spec add-clip16 (search needs) (search needs) (search needs) returns)
+rounded-spec = tie.close (tie.spec add-clip16 (λ c. search needs) (λ c. search needs) (λ c κs. search needs) returns)

@@ -42,9 +42,9 @@ pub itxb0-spec : {M : Type 1} → statement M
 itxb0-spec =
     tie.close
     (tie.spec
-    (search needs)
+    (λ c κs. search needs)
     shl-ones
     ones-requires
-    (search needs)
+    (λ c. search needs)
     returns
     returns-2)

@@ -66,7 +66,7 @@ one16-spec =
     Inv-loop
     μ-loop
     gather-requires
-    (search needs)
+    (λ c κs. search needs)
     loop-holds
     slice-aggregate-store-line
     add-store-line

@@ -112,17 +112,17 @@ pub itxb0-spec : {M : Type 1} → statement M
 itxb0-spec =
     tie.close
     (tie.spec
-    (search needs)
+    (λ c κs. search needs)
     rows2-requires
-    (search needs)
+    (λ c. search needs)
     returns
     returns-2
-    (search needs)
+    (λ c κs. search needs)
     lines-requires
     shl-lines
     lines-requires-2
-    (search needs)
+    (λ c. search needs)
     returns-3
-    (search needs)
+    (λ c. search needs)
     returns-4
     returns-5)

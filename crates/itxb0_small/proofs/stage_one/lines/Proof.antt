@@ -57,11 +57,11 @@ lines-spec =
     rows4-requires
     rows4-requires-2
     rows8-requires
-    (search needs)
+    (λ c. search needs)
     returns
-    (search needs)
+    (λ c. search needs)
     returns-2
-    (search needs)
+    (λ c. search needs)
     returns-3
-    (search needs)
+    (λ c. search needs)
     returns-4)

@@ -62,10 +62,10 @@ rows8-spec =
     Inv-loop
     μ-loop
     loop-holds
-    (search needs)
-    (search needs)
+    (λ c κs. search needs)
+    (λ c. search needs)
     line8-requires
-    (search needs)
+    (λ c. search needs)
     store-i32-requires
     add-j
     loop-less

@@ -31,4 +31,4 @@ returns-2 : tie.Need-returns-2
 returns-2 c = c .before .twos642 .ensures
 
 pub all64-spec : {M : Type 1} → statement M
-all64-spec = tie.close (tie.spec twos64-requires twos64-requires-2 (search needs) returns (search needs) returns-2)
+all64-spec = tie.close (tie.spec twos64-requires twos64-requires-2 (λ c. search needs) returns (λ c. search needs) returns-2)

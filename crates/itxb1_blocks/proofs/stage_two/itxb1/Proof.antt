@@ -66,12 +66,12 @@ pub itxb1-spec : {M : Type 1} → statement M
 itxb1-spec =
     tie.close
     (tie.spec
-    (search needs)
+    (λ c κs. search needs)
     shl-l
     twos32-requires
     all64-requires
-    (search needs)
+    (λ c. search needs)
     returns
-    (search needs)
+    (λ c. search needs)
     returns-2
     returns-3)

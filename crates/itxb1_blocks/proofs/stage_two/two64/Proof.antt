@@ -50,11 +50,11 @@ two64-spec =
     tie.close
     (tie.spec
     highs-requires
-    (search needs)
+    (λ c κs. search needs)
     lows-requires
-    (search needs)
+    (λ c κs. search needs)
     slice-aggregate-tail
     slice-aggregate-tail-2
     tail-requires
-    (search needs)
+    (λ c. search needs)
     returns)

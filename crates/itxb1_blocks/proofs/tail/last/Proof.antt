@@ -57,7 +57,7 @@ last-spec =
     cast-clip16-2
     add-clip16
     add-clip16-2
-    (search needs)
-    (search needs)
-    (search needs)
+    (λ c. search needs)
+    (λ c. search needs)
+    (λ c κs. search needs)
     returns)

@@ -85,5 +85,5 @@ tail-at-spec =
     add-t21
     mul-t22
     slice-set-from-dst
-    (search needs)
+    (λ c. search needs)
     returns)

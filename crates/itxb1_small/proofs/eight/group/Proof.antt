@@ -46,11 +46,11 @@ pub group-spec : {M : Type 1} → statement M
 group-spec =
     tie.close
     (tie.spec
-    (search needs)
+    (λ c. search needs)
     rows-requires
-    (search needs)
-    (search needs)
-    (search needs)
+    (λ c. search needs)
+    (λ c. search needs)
+    (λ c. search needs)
     store-clipped-requires
-    (search needs)
+    (λ c. search needs)
     returns)

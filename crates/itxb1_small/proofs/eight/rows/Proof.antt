@@ -84,11 +84,11 @@ rows-spec =
     Inv-loop
     μ-loop
     loop-holds
-    (search needs)
-    (search needs)
+    (λ c κs. search needs)
+    (λ c. search needs)
     add-line8
     line8-requires
-    (search needs)
+    (λ c. search needs)
     store-quotients-requires
     add-j
     loop-less

@@ -118,7 +118,7 @@ rows8-spec =
     (tie.spec
     Inv-loop
     μ-loop
-    (search needs)
+    (λ c κs. search needs)
     add-n
     loop-holds
     mul-group

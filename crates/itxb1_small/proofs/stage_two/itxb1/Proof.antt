@@ -132,17 +132,17 @@ pub itxb1-spec : {M : Type 1} → statement M
 itxb1-spec =
     tie.close
     (tie.spec
-    (search needs)
-    (search needs)
+    (λ c κs. search needs)
+    (λ c κs. search needs)
     rows2-requires
-    (search needs)
+    (λ c. search needs)
     returns
     returns-2
-    (search needs)
+    (λ c κs. search needs)
     lines-requires
     lines-requires-2
-    (search needs)
+    (λ c. search needs)
     returns-3
-    (search needs)
+    (λ c. search needs)
     returns-4
     returns-5)

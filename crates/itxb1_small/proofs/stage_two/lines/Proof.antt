@@ -93,16 +93,16 @@ lines-spec =
     tie.close
     (tie.spec
     shl-l
-    (search needs)
+    (λ c κs. search needs)
     rows2-requires
     rows4-requires
     rows4-requires-2
     rows8-requires
-    (search needs)
+    (λ c. search needs)
     returns
-    (search needs)
+    (λ c. search needs)
     returns-2
-    (search needs)
+    (λ c. search needs)
     returns-3
-    (search needs)
+    (λ c. search needs)
     returns-4)

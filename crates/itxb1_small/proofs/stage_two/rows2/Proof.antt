@@ -68,10 +68,10 @@ rows2-spec =
     Inv-loop
     μ-loop
     loop-holds
-    (search needs)
-    (search needs)
+    (λ c κs. search needs)
+    (λ c. search needs)
     line2-requires
-    (search needs)
+    (λ c. search needs)
     store-i16-requires
     add-j
     loop-less

@@ -70,10 +70,10 @@ rows4-spec =
     Inv-loop
     μ-loop
     loop-holds
-    (search needs)
-    (search needs)
+    (λ c κs. search needs)
+    (λ c. search needs)
     line4-requires
-    (search needs)
+    (λ c. search needs)
     store-i16-requires
     add-j
     loop-less

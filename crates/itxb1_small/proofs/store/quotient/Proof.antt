@@ -39,4 +39,4 @@ returns-2 c =
     ap (λ (z : ℤ). toZ w32 (ofZ w32 z)) (is (c .before)) ∙ toZ-ofZ (fits (c .before) (omega arith)) ∙ sym (clip32-id _ (fits (c .before) (omega arith)))
 
 pub quotient-spec : {M : Type 1} → statement M
-quotient-spec = tie.close (tie.spec (search needs) (search needs) (search needs) returns cast-result returns-2)
+quotient-spec = tie.close (tie.spec (λ c. search needs) (λ c. search needs) (λ c κs. search needs) returns cast-result returns-2)

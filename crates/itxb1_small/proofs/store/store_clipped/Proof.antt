@@ -79,7 +79,7 @@ store-clipped-spec =
     mul-clip16
     shared-slice-copy-out-clip16
     cast-clip16
-    (search needs)
+    (λ c κs. search needs)
     add-t12
     mul-t13
     slice-set-from-dst

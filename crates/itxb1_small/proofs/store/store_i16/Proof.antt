@@ -98,9 +98,9 @@ store-i16-spec =
     mul-clip16
     shared-slice-copy-out-clip16
     add-clip16
-    (search needs)
+    (λ c. search needs)
     shr-clip16
-    (search needs)
+    (λ c κs. search needs)
     mul-t16
     add-t17
     mul-t18

@@ -14,4 +14,4 @@ returns c =
     rw (off, k .before .less .ensures, k .less2 .ensures) at (c .job-of .ensures)
 
 pub chroma-job-spec : {M : Type 1} → statement M
-chroma-job-spec = tie.close (tie.spec (search needs) (search needs) (search needs) returns)
+chroma-job-spec = tie.close (tie.spec (λ c κs. search needs) (λ c κs. search needs) (λ c κs. search needs) returns)

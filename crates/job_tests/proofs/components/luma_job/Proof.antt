@@ -13,4 +13,4 @@ returns c =
     rw off at (c .job-of .ensures)
 
 pub luma-job-spec : {M : Type 1} → statement M
-luma-job-spec = tie.close (tie.spec (search needs) returns)
+luma-job-spec = tie.close (tie.spec (λ c κs. search needs) returns)

@@ -20,4 +20,4 @@ returns-2 : tie.Need-returns-2
 returns-2 c = past-left (c .before .before .before .args .job) _ (sized (c .before .before .before)) _ (c .before .if1 .left)
 
 pub past-end-spec : {M : Type 1} → statement M
-past-end-spec = tie.close (tie.spec (search needs) (search needs) returns returns-2)
+past-end-spec = tie.close (tie.spec (λ c. search needs) (λ c. search needs) returns returns-2)

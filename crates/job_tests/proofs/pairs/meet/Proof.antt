@@ -22,4 +22,4 @@ returns-2 : tie.Need-returns-2
 returns-2 c = rw (c .if1 .left)
 
 pub meet-spec : {M : Type 1} → statement M
-meet-spec = tie.close (tie.spec samples-requires samples-requires-2 (search needs) returns returns-2)
+meet-spec = tie.close (tie.spec samples-requires samples-requires-2 (λ c κs. search needs) returns returns-2)

@@ -11,4 +11,4 @@ returns-2 : tie.Need-returns-2
 returns-2 c u v = second-lower _ _ _ _ (c .if1 .left) u v
 
 pub runs-meet-spec : {M : Type 1} → statement M
-runs-meet-spec = tie.close (tie.spec (search needs) returns returns-2)
+runs-meet-spec = tie.close (tie.spec (λ c. search needs) returns returns-2)

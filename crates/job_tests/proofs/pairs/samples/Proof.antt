@@ -13,4 +13,4 @@ returns c =
     one-shl w64 (s .args .job .«log2_w» + s .args .job .«log2_h») (omega (arith, s .pre .w6, s .pre .h6))
 
 pub samples-spec : {M : Type 1} → statement M
-samples-spec = tie.close (tie.spec (search needs) (search needs) returns)
+samples-spec = tie.close (tie.spec (λ c. search needs) (λ c. search needs) returns)

@@ -10,4 +10,4 @@ returns-2 : tie.Need-returns-2
 returns-2 c = rw (c .if1 .left)
 
 pub component-spec : {M : Type 1} → statement M
-component-spec = tie.close (tie.spec (search needs) returns returns-2)
+component-spec = tie.close (tie.spec (λ c κs. search needs) returns returns-2)

@@ -7,4 +7,4 @@ returns : tie.Need-returns
 returns c = rw (c .before .outside .ensures, c .outside2 .ensures)
 
 pub bad-even-sides-spec : {M : Type 1} → statement M
-bad-even-sides-spec = tie.close (tie.spec (search needs) (search needs) returns)
+bad-even-sides-spec = tie.close (tie.spec (λ c κs. search needs) (λ c κs. search needs) returns)

@@ -36,4 +36,4 @@ returns-4 c =
     (c .too-short .ensures)
 
 pub bad-plane-spec : {M : Type 1} → statement M
-bad-plane-spec = tie.close (tie.spec (search needs) returns (search needs) returns-2 returns-3 too-short-requires returns-4)
+bad-plane-spec = tie.close (tie.spec (λ c κs. search needs) returns (λ c κs. search needs) returns-2 returns-3 too-short-requires returns-4)

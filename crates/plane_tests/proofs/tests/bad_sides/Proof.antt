@@ -9,4 +9,4 @@ returns : tie.Need-returns
 returns c = ap₂ _||_ (c .before .outside .ensures) (c .outside2 .ensures)
 
 pub bad-sides-spec : {M : Type 1} → statement M
-bad-sides-spec = tie.close (tie.spec (search needs) (search needs) returns)
+bad-sides-spec = tie.close (tie.spec (λ c κs. search needs) (λ c κs. search needs) returns)

@@ -46,4 +46,4 @@ returns-3 c =
     (c .past2 .ensures ∙ ap (λ (z : ℤ). pastEdge z (a .h) (a .height)) (toZ-ofZ (s .fits .y)))
 
 pub outside-edges-spec : {M : Type 1} → statement M
-outside-edges-spec = tie.close (tie.spec (search needs) returns past-requires past-requires-2 returns-2 returns-3)
+outside-edges-spec = tie.close (tie.spec (λ c κs. search needs) returns past-requires past-requires-2 returns-2 returns-3)

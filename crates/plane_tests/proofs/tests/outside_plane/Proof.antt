@@ -18,4 +18,4 @@ returns-3 c =
     (sym (c .before .before .beyond .ensures) ∙ c .before .if2 .left) (c .beyond2 .ensures)
 
 pub outside-plane-spec : {M : Type 1} → statement M
-outside-plane-spec = tie.close (tie.spec (search needs) returns (search needs) (search needs) returns-2 returns-3)
+outside-plane-spec = tie.close (tie.spec (λ c κs. search needs) returns (λ c κs. search needs) (λ c κs. search needs) returns-2 returns-3)

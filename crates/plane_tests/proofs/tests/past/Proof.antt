@@ -35,4 +35,4 @@ returns c =
     ∙ past-far (a .x) (a .w) (a .side) (c .before .fits .x)
 
 pub past-spec : {M : Type 1} → statement M
-past-spec = tie.close (tie.spec cast-from add-from cast-from-2 (search needs) (search needs) returns)
+past-spec = tie.close (tie.spec cast-from add-from cast-from-2 (λ c. search needs) (λ c κs. search needs) returns)

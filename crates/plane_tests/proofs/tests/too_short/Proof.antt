@@ -36,4 +36,4 @@ returns-3 c =
     (λ h. div-lt-iff-lt-mul by .1 (omega arith))
 
 pub too-short-spec : {M : Type 1} → statement M
-too-short-spec = tie.close (tie.spec returns (search needs) mul-result returns-2 (search needs) returns-3)
+too-short-spec = tie.close (tie.spec returns (λ c. search needs) mul-result returns-2 (λ c. search needs) returns-3)

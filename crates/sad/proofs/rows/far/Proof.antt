@@ -57,4 +57,4 @@ returns-2 c = ap natAbs (reads (ρ (c .before)) (loc w32 d) tt)
 pub far-spec : {M : Type 1} → statement M
 far-spec =
     tie.close
-    (tie.spec (search needs) (search needs) sub-d sub-result cast-result cast-result-2 returns returns-2)
+    (tie.spec (λ c. search needs) (λ c. search needs) sub-d sub-result cast-result cast-result-2 returns returns-2)

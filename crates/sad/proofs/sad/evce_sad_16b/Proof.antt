@@ -95,16 +95,16 @@ pub evce-sad-16b-spec : {M : Type 1} → statement M
 evce-sad-16b-spec =
     tie.close
     (tie.spec
-    (search needs)
+    (λ c κs. search needs)
     returns
-    (search needs)
+    (λ c κs. search needs)
     returns-2
-    (search needs)
+    (λ c κs. search needs)
     returns-3
-    (search needs)
+    (λ c κs. search needs)
     returns-4
     mul-total
     add-total
     total-requires
-    (search needs)
+    (λ c κs. search needs)
     returns-5)

@@ -82,16 +82,16 @@ pub evce-sad-16i-spec : {M : Type 1} → statement M
 evce-sad-16i-spec =
     tie.close
     (tie.spec
-    (search needs)
+    (λ c κs. search needs)
     returns
-    (search needs)
+    (λ c κs. search needs)
     returns-2
-    (search needs)
+    (λ c κs. search needs)
     returns-3
-    (search needs)
+    (λ c κs. search needs)
     returns-4
     mul-sad-block
     add-sad-block
     sad-block-requires
-    (search needs)
+    (λ c κs. search needs)
     returns-5)

@@ -65,4 +65,4 @@ returns-2 c = let e = ap natAbs (reads (ρ (c .before)) (loc w32 above) tt) in (
 pub distance-spec : {M : Type 1} → statement M
 distance-spec =
     tie.close
-    (tie.spec cast-x (search needs) sub-result cast-result sub-result-2 cast-result-2 returns returns-2)
+    (tie.spec cast-x (λ c. search needs) sub-result cast-result sub-result-2 cast-result-2 returns returns-2)

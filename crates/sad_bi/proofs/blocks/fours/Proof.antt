@@ -18,4 +18,4 @@ returns : tie.Need-returns
 returns c = blocks-four _ _ 4 _ refl (c .before .if1 .taken) (c .sad-rows .ensures)
 
 pub fours-spec : {M : Type 1} → statement M
-fours-spec = tie.close (tie.spec sad-rows-requires returns (search needs) (search needs))
+fours-spec = tie.close (tie.spec sad-rows-requires returns (λ c κs. search needs) (λ c. search needs))

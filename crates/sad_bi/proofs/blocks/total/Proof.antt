@@ -118,4 +118,4 @@ returns-3 : tie.Need-returns-3
 returns-3 c = counted-all _ _ _ _ (c .sad-block .ensures)
 
 pub total-spec : {M : Type 1} → statement M
-total-spec = tie.close (tie.spec mul-size runs-requires returns runs-requires-2 returns-2 (search needs) returns-3)
+total-spec = tie.close (tie.spec mul-size runs-requires returns runs-requires-2 returns-2 (λ c κs. search needs) returns-3)

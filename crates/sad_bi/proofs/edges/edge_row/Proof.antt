@@ -33,9 +33,9 @@ pub edge-row-spec : {M : Type 1} → statement M
 edge-row-spec =
     tie.close
     (tie.spec
-    (search needs)
+    (λ c. search needs)
     slice-aggregate-edge-row
-    (search needs)
+    (λ c κs. search needs)
     array-share-prefix-line
     slice-aggregate-sad-row
     sad-row-requires

@@ -85,14 +85,14 @@ pub evce-sad-bi-16b-spec : {M : Type 1} → statement M
 evce-sad-bi-16b-spec =
     tie.close
     (tie.spec
-    (search needs)
+    (λ c κs. search needs)
     returns
-    (search needs)
+    (λ c κs. search needs)
     returns-2
-    (search needs)
+    (λ c κs. search needs)
     returns-3
-    (search needs)
+    (λ c κs. search needs)
     returns-4
     total-requires
-    (search needs)
+    (λ c κs. search needs)
     returns-5)

@@ -30,4 +30,4 @@ returns-2 : tie.Need-returns-2
 returns-2 c = reached (c .before .args .any) (c .before .args .depth)
 
 pub bad-samples-spec : {M : Type 1} → statement M
-bad-samples-spec = tie.close (tie.spec returns (search needs) returns-2)
+bad-samples-spec = tie.close (tie.spec returns (λ c. search needs) returns-2)

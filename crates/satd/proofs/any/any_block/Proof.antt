@@ -61,11 +61,11 @@ any-block-spec =
     any-rows-requires-4
     any-rows-requires-5
     any-rows-requires-6
-    (search needs)
+    (λ c κs. search needs)
     returns
     returns-2
     returns-3
     returns-4
     returns-5
     returns-6
-    (search needs))
+    (λ c. search needs))

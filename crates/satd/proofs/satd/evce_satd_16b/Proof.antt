@@ -112,11 +112,11 @@ pub evce-satd-16b-spec : {M : Type 1} → statement M
 evce-satd-16b-spec =
     tie.close
     (tie.spec
-    (search needs)
+    (λ c κs. search needs)
     returns
-    (search needs)
+    (λ c κs. search needs)
     returns-2
-    (search needs)
+    (λ c κs. search needs)
     mul-if3
     returns-3
     mul-of-blocks

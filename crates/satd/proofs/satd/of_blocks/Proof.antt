@@ -76,13 +76,13 @@ pub of-blocks-spec : {M : Type 1} → statement M
 of-blocks-spec =
     tie.close
     (tie.spec
-    (search needs)
-    (search needs)
+    (λ c κs. search needs)
+    (λ c. search needs)
     returns
-    (search needs)
+    (λ c κs. search needs)
     total-requires
-    (search needs)
-    (search needs)
-    (search needs)
+    (λ c. search needs)
+    (λ c. search needs)
+    (λ c. search needs)
     cast-satd-2
     returns-2)

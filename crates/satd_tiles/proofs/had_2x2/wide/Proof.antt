@@ -20,4 +20,4 @@ returns : tie.Need-returns
 returns c = reads (ρ c) (loc w32 (var 0)) tt
 
 pub wide-spec : {M : Type 1} → statement M
-wide-spec = tie.close (tie.spec (search needs) (search needs) (search needs) (search needs) cast-result returns)
+wide-spec = tie.close (tie.spec (λ c. search needs) (λ c. search needs) (λ c. search needs) (λ c. search needs) cast-result returns)

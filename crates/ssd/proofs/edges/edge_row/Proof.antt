@@ -49,12 +49,12 @@ pub edge-row-spec : {M : Type 1} → statement M
 edge-row-spec =
     tie.close
     (tie.spec
-    (search needs)
+    (λ c. search needs)
     slice-aggregate-edge-row
-    (search needs)
-    (search needs)
+    (λ c κs. search needs)
+    (λ c. search needs)
     slice-aggregate-edge-row-2
-    (search needs)
+    (λ c κs. search needs)
     array-share-prefix-one
     slice-aggregate-ssd-row
     array-share-prefix-two

@@ -21,4 +21,4 @@ unfolding squared
 returns-2 c = ap (λ (n : ℕ). n / 2 ^ c .before .before .args .shift) (c .before .square .ensures)
 
 pub share-spec : {M : Type 1} → statement M
-share-spec = tie.close (tie.spec (search needs) (search needs) returns returns-2)
+share-spec = tie.close (tie.spec (λ c κs. search needs) (λ c. search needs) returns returns-2)

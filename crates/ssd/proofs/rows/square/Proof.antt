@@ -46,4 +46,4 @@ returns c =
     ap natAbs (reads (ρ c) (loc w32 (mul e e)) tt) ∙ abs-mul z z
 
 pub square-spec : {M : Type 1} → statement M
-square-spec = tie.close (tie.spec (search needs) (search needs) sub-d cast-e mul-result cast-result returns)
+square-spec = tie.close (tie.spec (λ c. search needs) (λ c. search needs) sub-d cast-e mul-result cast-result returns)

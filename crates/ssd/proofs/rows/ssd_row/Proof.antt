@@ -134,5 +134,5 @@ ssd-row-spec =
     add-i
     loop-less
     loop-again
-    (search needs)
+    (λ c. search needs)
     returns)

@@ -16,4 +16,4 @@ returns-2 c =
     rw (toZ-pos w64 {n = s .args .t .sum} (omega (arith, s .pre)), sym (c .before .before .bad-samples .ensures) ∙ c .before .if1 .left)
 
 pub end-spec : {M : Type 1} → statement M
-end-spec = tie.close (tie.spec (search needs) returns (search needs) returns-2)
+end-spec = tie.close (tie.spec (λ c κs. search needs) returns (λ c. search needs) returns-2)

@@ -120,15 +120,15 @@ pub evce-ssd-16b-spec : {M : Type 1} → statement M
 evce-ssd-16b-spec =
     tie.close
     (tie.spec
-    (search needs)
+    (λ c κs. search needs)
     returns
     shl-w
     shl-h
-    (search needs)
+    (λ c κs. search needs)
     returns-2
-    (search needs)
+    (λ c κs. search needs)
     returns-3
-    (search needs)
+    (λ c κs. search needs)
     returns-4
     mul-ssd-block
     add-ssd-block
