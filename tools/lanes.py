@@ -152,7 +152,7 @@ def rows(m, g):
 def level(m):
     """The passes of a level. It binds the table and the loan of it; then, of each pass, the loan of e, the call, and the loan's end."""
     uses = [
-        "use mathlib.Core.Path.{refl, _∙_}",
+        "use mathlib.Core.Path.{refl, _∙_}" if MANY[m] < m else "use mathlib.Core.Path.{refl}",
         "use lib.Dec.{lit≤}",
         "use Rattle.itx_halving.proofs.Step.{none, all}",
     ]

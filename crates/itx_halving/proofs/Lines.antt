@@ -11,7 +11,7 @@ use lib.ListN.{length, getD, set, length-set}
 use lib.Seq.{getD-set-same, getD-set-other}
 use lib.IntN.{ℤ, pos, _*ℤ_, natAbs}
 use Rattle.integers.specs.Lists.{written}
-use Rattle.integers.proofs.Written.{written-none, written-length, written-next, written-count, grid-at}
+use Rattle.integers.proofs.Written.{written-none, written-next, written-count, grid-at}
 use Rattle.integers.proofs.Bound.{Within}
 use Rattle.integers.proofs.Every.{below, below-at}
 use Rattle.integers.specs.Sum.{ofZ+}

@@ -10,7 +10,7 @@ use lib.IntN.{ℤ}
 use Rattle.integers.specs.Lists.{written}
 use Rattle.integers.proofs.Every.{below, below-at}
 use Rattle.integers.proofs.Written.{written-none, written-count, grid-at}
-use Rattle.itx_halving.specs.Lines.{Next, StageRoom}
+use Rattle.itx_halving.specs.Lines.{Next}
 use Rattle.itx_halving.specs.Taken.{Call}
 use Rattle.itx_halving.proofs.Lines.{next-none}
 use Rattle.itx_halving.proofs.Taken.{lines}

@@ -1,6 +1,6 @@
 -- `itx_lanes::lanes::pick` meets its contract: input after input. Assumes nothing.
 use mathlib.Core.Path.{sym, _∙_}
-use Prim.Native.Nat.{ℕ, _-_}
+use Prim.Native.Nat.{_-_}
 use native.Mathlib.Omega.{arith}
 use mir.Syntax.{w32}
 use Rattle.integers.proofs.Bits.{back}

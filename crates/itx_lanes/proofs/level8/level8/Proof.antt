@@ -1,6 +1,6 @@
 -- `itx_lanes::level8::level8` meets its contract: pass after pass. Written by tools/lanes.py.
 -- Assumes nothing.
-use mathlib.Core.Path.{refl, _∙_}
+use mathlib.Core.Path.{refl}
 use lib.Dec.{lit≤}
 use Rattle.itx_halving.proofs.Step.{none, all}
 use Rattle.itx_lanes.proofs.level8.level8.Statement.{statement}

@@ -1,8 +1,7 @@
 -- `itx_lanes::sums::sums32` meets its contract: level after level. Assumes nothing.
 use borrow.Author.Needs.{needs}
-use mathlib.Core.Path.{_≡_, refl}
+use mathlib.Core.Path.{refl}
 use lib.Dec.{lit<, lit≤}
-use lib.ListN.{length}
 use Rattle.itx_lanes.proofs.Passes.{sums-are}
 use Rattle.itx_lanes.proofs.sums.sums32.Statement.{statement}
 use Rattle.itx_lanes.proofs.sums.sums32.Tie as tie

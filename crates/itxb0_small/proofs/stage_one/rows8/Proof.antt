@@ -1,6 +1,6 @@
 -- `itxb0_small::stage_one::rows8` meets its contract: line after line, summed with document 01's table, and stored. Assumes nothing.
 use borrow.Author.Needs.{needs}
-use Prim.Native.Nat.{_*_, _-_}
+use Prim.Native.Nat.{_-_}
 use native.Mathlib.Omega.{arith}
 use Rattle.integers.specs.Z.{clip32}
 use Rattle.evc.specs.Table.{tm}

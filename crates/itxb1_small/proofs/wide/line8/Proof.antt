@@ -1,7 +1,7 @@
 -- `itxb1_small::wide::line8` meets its contract: from the half as large, by the halving step, with the rounding number in the even half. Assumes nothing.
 use mathlib.Core.Path.{_≡_, refl}
 use mathlib.Core.List.{List, [], _∷_, map}
-use Prim.Native.Nat.{ℕ, zero, suc, _+_, _*_, _-_, _<_}
+use Prim.Native.Nat.{ℕ, suc, _+_, _*_, _-_, _<_}
 use native.Mathlib.Omega.{arith}
 use lib.ListN.{length, getD}
 use lib.IntN.{ℤ, pos, _+ℤ_, _-ℤ_}
