@@ -44,9 +44,31 @@ runs c =
       rest = rw (c .before .before .left .ensures) at (c .before .least2 .ensures);
     }
 
+-- ---- places
+module _ (c : tie.After-least2) where
+  abbrev after-slice-known : tie.After-slice-known
+  after-slice-known = c .before .before .before .before .before
+
+  abbrev start : tie.Start
+  start = after-slice-known .before .before
+
+module _ (c : tie.After-loop2) where
+  abbrev after-sample : tie.After-sample
+  after-sample = c .before .before .before .before
+
+  abbrev after-least : tie.After-least
+  after-least = after-sample .before .before .before
+
+  abbrev start-2 : tie.Start
+  start-2 = after-least .before .before .before .before .before
+
+module _ (c : tie.In-loop2) where
+  abbrev start-3 : tie.Start
+  start-3 = start (c .before .before .before .before .before)
+
 short :
     (c : tie.After-sample Inv-loop μ-loop Inv-loop2 μ-loop2 Inv-loop3 μ-loop3) →
-    c .before .before .before .least .result + c .before .least2 .result ≤ length (c .before .before .before .before .before .before .before .before .args .out .now)
+    c .before .before .before .least .result + c .before .least2 .result ≤ length (start (c .before) .args .out .now)
 short c = omega (arith, c .before .before .before .least .ensures .within, c .before .least2 .ensures .within)
 
 inside :
@@ -75,7 +97,7 @@ least-requires-2 : tie.Need-least-requires-2 Inv-loop μ-loop Inv-loop2 μ-loop2
 least-requires-2 c κs = tt
 
 add-m : tie.Need-add-m Inv-loop μ-loop Inv-loop2 μ-loop2 Inv-loop3 μ-loop3
-add-m c = omega (arith, c .before .before .least .ensures .within, c .least2 .ensures .within, c .before .before .before .before .before .before .before .good)
+add-m c = omega (arith, c .before .before .least .ensures .within, c .least2 .ensures .within, start c .good)
 
 sample-requires : tie.Need-sample-requires Inv-loop μ-loop Inv-loop2 μ-loop2 Inv-loop3 μ-loop3
 sample-requires c κs = tt
@@ -84,7 +106,7 @@ loop-holds : tie.Need-loop-holds Inv-loop μ-loop Inv-loop2 μ-loop2 Inv-loop3 �
 loop-holds c = (filled-start refl, omega arith)
 
 mul-out : tie.Need-mul-out Inv-loop μ-loop Inv-loop2 μ-loop2 Inv-loop3 μ-loop3
-mul-out c = omega (arith, c .before .before .before .before .before .least .ensures .within, c .before .before .before .before .before .before .before .before .before .before .good)
+mul-out c = omega (arith, c .before .before .before .before .before .least .ensures .within, start (c .before .before .before) .good)
 
 slice-write-out : tie.Need-slice-write-out Inv-loop μ-loop Inv-loop2 μ-loop2 Inv-loop3 μ-loop3
 slice-write-out c = omega (arith, c .before .loop .inv .0 .long, c .before .before .before .before .before .least .ensures .within)
@@ -111,23 +133,23 @@ sub-out : tie.Need-sub-out Inv-loop μ-loop Inv-loop2 μ-loop2 Inv-loop3 μ-loop
 sub-out c = c .before .loop2 .inv .1
 
 add-out : tie.Need-add-out Inv-loop μ-loop Inv-loop2 μ-loop2 Inv-loop3 μ-loop3
-add-out c = omega (arith, inside c, c .before .before .before .before .before .before .before .before .before .before .before .before .good)
+add-out c = omega (arith, inside c, start-3 c .good)
 
 mul-out-2 : tie.Need-mul-out-2 Inv-loop μ-loop Inv-loop2 μ-loop2 Inv-loop3 μ-loop3
-mul-out-2 c = omega (arith, inside c, c .before .before .before .before .before .before .before .before .before .before .before .before .good)
+mul-out-2 c = omega (arith, inside c, start-3 c .good)
 
 shared-slice-read-out :
     tie.Need-shared-slice-read-out Inv-loop μ-loop Inv-loop2 μ-loop2 Inv-loop3 μ-loop3
 shared-slice-read-out c = inside (c .before)
 
 mul-out-3 : tie.Need-mul-out-3 Inv-loop μ-loop Inv-loop2 μ-loop2 Inv-loop3 μ-loop3
-mul-out-3 c = omega (arith, short (c .before .before .before .before .before), c .before .before .before .before .before .before .before .before .before .before .before .before .before .good)
+mul-out-3 c = omega (arith, short (c .before .before .before .before .before), start-3 (c .before) .good)
 
 slice-write-out-2 : tie.Need-slice-write-out-2 Inv-loop μ-loop Inv-loop2 μ-loop2 Inv-loop3 μ-loop3
 slice-write-out-2 c = omega (arith, c .before .before .loop2 .inv .0 .long, short (c .before .before .before .before .before))
 
 add-i-2 : tie.Need-add-i-2 Inv-loop μ-loop Inv-loop2 μ-loop2 Inv-loop3 μ-loop3
-add-i-2 c = omega (arith, short (c .before .before .before .before .before), c .before .before .before .before .before .before .before .before .before .before .before .before .before .good)
+add-i-2 c = omega (arith, short (c .before .before .before .before .before), start-3 (c .before) .good)
 
 loop2-less : tie.Need-loop2-less Inv-loop μ-loop Inv-loop2 μ-loop2 Inv-loop3 μ-loop3
 loop2-less c = omega arith
@@ -142,11 +164,11 @@ loop2-again c =
 loop3-holds : tie.Need-loop3-holds Inv-loop μ-loop Inv-loop2 μ-loop2 Inv-loop3 μ-loop3
 loop3-holds c =
     let l = c .before .loop2 in
-    let e : l .i ≡ c .before .before .before .before .before .before .before .least .result + c .before .before .before .before .before .least2 .result = omega (arith, l .inv .2) in
+    let e : l .i ≡ after-least c .least .result + c .before .before .before .before .before .least2 .result = omega (arith, l .inv .2) in
     (rw e at (l .inv .0), omega arith)
 
 mul-out-4 : tie.Need-mul-out-4 Inv-loop μ-loop Inv-loop2 μ-loop2 Inv-loop3 μ-loop3
-mul-out-4 c = omega (arith, c .before .before .before .before .before .before .before .before .before .before .before .before .before .before .good)
+mul-out-4 c = omega (arith, start-2 (c .before .before) .good)
 
 slice-write-out-3 : tie.Need-slice-write-out-3 Inv-loop μ-loop Inv-loop2 μ-loop2 Inv-loop3 μ-loop3
 slice-write-out-3 c = omega (arith, c .before .loop3 .inv .0 .long)
@@ -160,14 +182,14 @@ loop3-less c = omega arith
 loop3-again : tie.Need-loop3-again Inv-loop μ-loop Inv-loop2 μ-loop2 Inv-loop3 μ-loop3
 loop3-again c =
     let l = c .before .loop3 in
-    (filled-step (l .inv .0) (c .loop3-test .taken) (past-at (runs (c .before .before .before .before .before .before)) (l .i) (l .inv .1) (c .loop3-test .taken)), omega arith)
+    (filled-step (l .inv .0) (c .loop3-test .taken) (past-at (runs (after-sample (c .before .before))) (l .i) (l .inv .1) (c .loop3-test .taken)), omega arith)
 
 same-length : tie.Need-same-length Inv-loop μ-loop Inv-loop2 μ-loop2 Inv-loop3 μ-loop3
 same-length c = c .before .loop3 .inv .0 .long
 
 returns : tie.Need-returns Inv-loop μ-loop Inv-loop2 μ-loop2 Inv-loop3 μ-loop3
 returns c =
-    let s = c .before .before .before .before .before .before .before .before .before .before .before .before .before .before in
+    let s = start-2 (c .before .before) in
     rw (toZ-ofZ (s .fits .x)) at (filled-end (c .before .loop3 .inv .0) (c .loop3-test .left))
 
 pub long-row-spec : {M : Type 1} → statement M

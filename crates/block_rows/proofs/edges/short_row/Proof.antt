@@ -31,8 +31,16 @@ edge-requires c κs = tt
 sample-requires : tie.Need-sample-requires Inv-loop μ-loop
 sample-requires c κs = tt
 
+-- ---- places
+module _ (c : tie.After-sample Inv-loop μ-loop) where
+  abbrev after-shared-slice-known : tie.After-shared-slice-known Inv-loop μ-loop
+  after-shared-slice-known = c .before .before .before .before .before
+
+  abbrev start : tie.Start Inv-loop μ-loop
+  start = after-shared-slice-known .before
+
 mul-out : tie.Need-mul-out Inv-loop μ-loop
-mul-out c = omega (arith, c .before .before .before .before .before .before .good)
+mul-out c = omega (arith, start c .good)
 
 slice-write-out : tie.Need-slice-write-out Inv-loop μ-loop
 slice-write-out c = omega (arith, c .before .before .before .loop .inv .long)

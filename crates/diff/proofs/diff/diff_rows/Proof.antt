@@ -75,8 +75,16 @@ part-diff-row-start-2 c = omega arith
 part-diff-row-end-2 : tie.Need-part-diff-row-end-2 Inv-loop μ-loop
 part-diff-row-end-2 c = two (c .before)
 
+-- ---- places
+module _ (c : tie.After-diff-row-arg2 Inv-loop μ-loop) where
+  abbrev after-shared-slice-known : tie.After-shared-slice-known Inv-loop μ-loop
+  after-shared-slice-known = c .before .before .before .before .before
+
+  abbrev start : tie.Start Inv-loop μ-loop
+  start = after-shared-slice-known .before
+
 mul-diff-row-3 : tie.Need-mul-diff-row-3 Inv-loop μ-loop
-mul-diff-row-3 c = omega (arith, two (c .before .before), c .before .before .before .before .before .before .good)
+mul-diff-row-3 c = omega (arith, two (c .before .before), start c .good)
 
 sub-diff-row-3 : tie.Need-sub-diff-row-3 Inv-loop μ-loop
 sub-diff-row-3 c = omega arith

@@ -32,7 +32,15 @@ B c w h = let a = c .before .before .args in inPacked (a .cur .now) w h (a .dept
 sized : (c : tie.Else1) → let a = c .before .before .before .before .args in ltb 6 (a .log2-w) || ltb 6 (a .log2-h) ≡ false
 sized c = sym (c .before .bad-logs .ensures) ∙ c .if1 .left
 
-deep : (c : tie.Else2) → outside 8 14 (c .before .before .before .before .before .before .args .depth) ≡ false
+-- ---- places
+module _ (c : tie.Else2) where
+  abbrev after-shared-slice-known : tie.After-shared-slice-known
+  after-shared-slice-known = c .before .before .before .before .before
+
+  abbrev start : tie.Start
+  start = after-shared-slice-known .before
+
+deep : (c : tie.Else2) → outside 8 14 (start c .args .depth) ≡ false
 deep c = sym (c .before .bad-depth .ensures) ∙ c .if2 .left
 
 returns : tie.Need-returns

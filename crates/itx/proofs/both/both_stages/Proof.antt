@@ -15,12 +15,14 @@ slice-aggregate-stages-over-2 c = sym (length-take-le _ _ (c .before .before .if
 
 returns : tie.Need-returns
 returns c =
-    let a = c .before .before .before .before .before .before .args in
+    let fits = c .before .before .before in
+    let a = fits .before .before .before .args in
     by-zeros (a .log2-w) (a .log2-h) (a .shift) (a .part .now) 16 (omega arith) _ (c .before .before .stages-over .ensures) ∙ taken _ _ _ _ (omega arith)
 
 returns-2 : tie.Need-returns-2
 returns-2 c =
-    let a = c .before .before .before .before .before .before .before .args in
+    let fits = c .before .before .before in
+    let a = fits .before .before .before .before .args in
     by-zeros (a .log2-w) (a .log2-h) (a .shift) (a .part .now) 64 (omega arith) _ (c .before .before .stages-over2 .ensures) ∙ taken _ _ _ _ (omega arith)
 
 returns-3 : tie.Need-returns-3

@@ -30,12 +30,41 @@ steps-requires-7 c κs = (c .before .before .steps6 .ensures, (omega arith, omeg
 steps-requires-8 : tie.Need-steps-requires-8
 steps-requires-8 c κs = (c .before .before .steps7 .ensures, (omega arith, omega arith))
 
+-- ---- places
+module _ (c : tie.After-steps2) where
+  abbrev after-e : tie.After-e
+  after-e = c .before .before .before .before .before
+
+  abbrev start : tie.Start
+  start = after-e .before .before .before
+
+module _ (c : tie.After-steps4) where
+  abbrev after-e3 : tie.After-e3
+  after-e3 = c .before .before .before .before .before
+
+  abbrev after-steps2 : tie.After-steps2
+  after-steps2 = after-e3 .before
+
+module _ (c : tie.After-steps6) where
+  abbrev after-e5 : tie.After-e5
+  after-e5 = c .before .before .before .before .before
+
+  abbrev after-steps4 : tie.After-steps4
+  after-steps4 = after-e5 .before
+
+module _ (c : tie.After-e9) where
+  abbrev after-steps-arg7 : tie.After-steps-arg7
+  after-steps-arg7 = c .before .before .before .before .before
+
+  abbrev after-steps6 : tie.After-steps6
+  after-steps6 = after-steps-arg7 .before .before
+
 same-length : tie.Need-same-length
 same-length c =
-    let six = c .before .before .before .before .before .before .before in
-    let four = six .before .before .before .before .before .before in
-    let two = four .before .before .before .before .before .before in
-    let entry = two .before .before .before .before .before .before .before .before in c .before .steps8 .ensures .part .long ∙ sym (entry .pre .1)
+    let six = after-steps6 c in
+    let four = after-steps4 six in
+    let two = after-steps2 four in
+    let entry = start two in c .before .steps8 .ensures .part .long ∙ sym (entry .pre .1)
 
 returns : tie.Need-returns
 returns c = all (c .before .steps8 .ensures .part)

@@ -8,9 +8,14 @@ use Rattle.itxb1_blocks.proofs.stage_two.Products.{tail-reads, block-jo
 use Rattle.itxb1_blocks.proofs.stage_two.two64.Statement.{statement}
 use Rattle.itxb1_blocks.proofs.stage_two.two64.Tie as tie
 
+-- ---- places
+module _ (c : tie.After-h2) where
+  abbrev after-lows : tie.After-lows
+  after-lows = c .before .before .before .before
+
 -- the rests and the upper halves, gathered and summed, as the tail sees them
 abbrev rests : tie.After-tail-arg → tie.After-lows
-rests c = c .before .before .before .before .before .before
+rests c = after-lows (c .before .before)
 
 abbrev uppers : tie.After-tail-arg → tie.After-highs
 uppers c = rests c .before .before .before .before .before
@@ -25,7 +30,7 @@ lows-requires c κs =
     record { long = u .highs .ensures .long; rows = refl; apart = omega arith; among = g .among; src-room = g .src-room }
 
 slice-aggregate-tail : tie.Need-slice-aggregate-tail
-slice-aggregate-tail c = sym (ap length (c .before .before .before .before .before .before .sums64 .ensures) ∙ tab-length 1024 _)
+slice-aggregate-tail c = sym (ap length (after-lows c .before .before .sums64 .ensures) ∙ tab-length 1024 _)
 
 slice-aggregate-tail-2 : tie.Need-slice-aggregate-tail-2
 slice-aggregate-tail-2 c = sym (ap length (c .before .before .sums642 .ensures) ∙ tab-length 1024 _)

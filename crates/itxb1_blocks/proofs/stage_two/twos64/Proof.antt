@@ -47,8 +47,16 @@ offsets-requires c κs =
     let a = add-is c in
     ((ap length (c .before .before .before .columns64 .ensures) ∙ tab-length 64 _, refl), rw (a .is) (rounding-within _ (a .most) .bound))
 
+-- ---- places
+module _ (c : tie.After-c2 Inv-loop μ-loop) where
+  abbrev after-col : tie.After-col Inv-loop μ-loop
+  after-col = c .before .before .before .before
+
+  abbrev start : tie.Start Inv-loop μ-loop
+  start = after-col .before .before
+
 loop-holds : tie.Need-loop-holds Inv-loop μ-loop
-loop-holds c = let r = c .before .before .before .before .before .before .pre .1 in blocks-none (r .0 .dst-room) (r .1)
+loop-holds c = let r = start c .pre .1 in blocks-none (r .0 .dst-room) (r .1)
 
 slice-aggregate-two64 : tie.Need-slice-aggregate-two64 Inv-loop μ-loop
 slice-aggregate-two64 c = sym (ap length (c .before .before .before .before .offsets .ensures) ∙ tab-length 64 _)

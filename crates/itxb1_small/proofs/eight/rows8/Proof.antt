@@ -82,9 +82,17 @@ add-i c = omega (arith, c .before .before .before .loop-test .taken)
 loop-less : tie.Need-loop-less Inv-loop μ-loop
 loop-less c = omega (arith, c .before .before .before .loop-test .taken)
 
+-- ---- places
+module _ (c : tie.After-dst Inv-loop μ-loop) where
+  abbrev after-together : tie.After-together Inv-loop μ-loop
+  after-together = c .before .before .before .before .before
+
+  abbrev start : tie.Start Inv-loop μ-loop
+  start = after-together .before
+
 loop-again : tie.Need-loop-again Inv-loop μ-loop
 loop-again c =
-    let s = c .before .before .before .before .before .before in
+    let s = start c in
     let l = c .before .before .before .before .loop in
     let m = c .before .before .before .before .before .together .result in
     let h = next (l .i) m _ (s .args .l) (c .before .before .before .loop-test .taken) (l .inv .0 .0) in

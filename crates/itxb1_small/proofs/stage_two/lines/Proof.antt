@@ -72,14 +72,29 @@ rows8-requires c κs =
 returns : tie.Need-returns
 returns c = let s = c .before .before .before .before .before in stored s _ 1 (l s) (c .before .before .before .match .keys1) refl (c .before .rows2 .ensures)
 
+-- ---- places
+module _ (c : tie.After-dst2) where
+  abbrev after-rounding : tie.After-rounding
+  after-rounding = c .before .before .before .before .before
+
+  abbrev start : tie.Start
+  start = after-rounding .before
+
+module _ (c : tie.After-dst3) where
+  abbrev after-rounding-2 : tie.After-rounding
+  after-rounding-2 = c .before .before .before .before .before
+
+  abbrev start-2 : tie.Start
+  start-2 = after-rounding-2 .before
+
 returns-2 : tie.Need-returns-2
 returns-2 c =
-    let s = c .before .before .before .before .before .before in
+    let s = start c in
     stored s _ 2 4 (c .before .before .before .before .match .keys2) (c .before .before .before .if1 .taken) (c .before .rows4 .ensures)
 
 returns-3 : tie.Need-returns-3
 returns-3 c =
-    let s = c .before .before .before .before .before .before in
+    let s = start-2 c in
     stored s _ 2 (l s) (c .before .before .before .before .match .keys2) refl (c .before .rows42 .ensures)
 
 returns-4 : tie.Need-returns-4

@@ -102,39 +102,47 @@ add-p c = fit (known (c .before .before)) w64 (add (var 0) (var 8)) tt
 add-q : tie.Need-add-q
 add-q c = fit (known (c .before .before .before .before)) w64 (add (var 1) (var 8)) tt
 
+-- ---- places
+module _ (c : tie.After-struct-told3) where
+  abbrev after-struct-known : tie.After-struct-known
+  after-struct-known = c .before .before .before .before .before
+
+  abbrev after-odd44 : tie.After-odd44
+  after-odd44 = after-struct-known .before
+
 add-r : tie.Need-add-r
-add-r c = fit (known (c .before .before .before .before .before .before)) w64 (add (var 2) (var 8)) tt
+add-r c = fit (known (after-odd44 c)) w64 (add (var 2) (var 8)) tt
 
 add-s : tie.Need-add-s
-add-s c = fit (known (c .before .before .before .before .before .before .before .before)) w64 (add (var 3) (var 8)) tt
+add-s c = fit (known (after-odd44 (c .before .before))) w64 (add (var 3) (var 8)) tt
 
 add-t18 : tie.Need-add-t18
-add-t18 c = let d = c .before .before .before .before .before .before .before .before in fit (known d) w64 (low d 0) tt
+add-t18 c = let d = after-odd44 (c .before .before) in fit (known d) w64 (low d 0) tt
 
 add-t19 : tie.Need-add-t19
-add-t19 c = let d = c .before .before .before .before .before .before .before .before in fit (known d) w64 (low d 1) tt
+add-t19 c = let d = after-odd44 (c .before .before) in fit (known d) w64 (low d 1) tt
 
 add-t20 : tie.Need-add-t20
-add-t20 c = let d = c .before .before .before .before .before .before .before .before in fit (known d) w64 (low d 2) tt
+add-t20 c = let d = after-odd44 (c .before .before) in fit (known d) w64 (low d 2) tt
 
 add-t21 : tie.Need-add-t21
-add-t21 c = let d = c .before .before .before .before .before .before .before .before in fit (known d) w64 (low d 3) tt
+add-t21 c = let d = after-odd44 (c .before .before) in fit (known d) w64 (low d 3) tt
 
 sub-t22 : tie.Need-sub-t22
-sub-t22 c = let d = c .before .before .before .before .before .before .before .before in fit (known d) w64 (high d 3) tt
+sub-t22 c = let d = after-odd44 (c .before .before) in fit (known d) w64 (high d 3) tt
 
 sub-t23 : tie.Need-sub-t23
-sub-t23 c = let d = c .before .before .before .before .before .before .before .before in fit (known d) w64 (high d 2) tt
+sub-t23 c = let d = after-odd44 (c .before .before) in fit (known d) w64 (high d 2) tt
 
 sub-t24 : tie.Need-sub-t24
-sub-t24 c = let d = c .before .before .before .before .before .before .before .before in fit (known d) w64 (high d 1) tt
+sub-t24 c = let d = after-odd44 (c .before .before) in fit (known d) w64 (high d 1) tt
 
 sub-t25 : tie.Need-sub-t25
-sub-t25 c = let d = c .before .before .before .before .before .before .before .before in fit (known d) w64 (high d 0) tt
+sub-t25 c = let d = after-odd44 (c .before .before) in fit (known d) w64 (high d 0) tt
 
 returns : tie.Need-returns
 returns c =
-    let d = c .before .before .before .before .before .before .before .before in
+    let d = after-odd44 (c .before .before) in
     let a = s d .args in
     raised (4 * wide) (4 * wide) (a .t .now) (a .w) (a .x .now) (a .l) (a .j) 4 (e d) (out d) (o d) (s d .pre .0 .1 .0) (omega arith) (even d) (odds d) refl
     2147483648 (a .add) (s d .pre .1) (low-is d) (high-is d)

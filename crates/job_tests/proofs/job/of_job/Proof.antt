@@ -11,17 +11,39 @@ use Rattle.job_tests.proofs.job.of_job.Tie as tie
 returns : tie.Need-returns
 returns c = job-size _ (c .before .before .before .before .before .args .job) (c .if1 .taken)
 
+-- ---- places
+module _ (c : tie.Then2) where
+  abbrev after-struct-known2 : tie.After-struct-known2
+  after-struct-known2 = c .before .before .before .before .before
+
+  abbrev start : tie.Start
+  start = after-struct-known2 .before .before
+
+module _ (c : tie.Else3) where
+  abbrev else1 : tie.Else1
+  else1 = c .before .before .before .before .before
+
+  abbrev start-2 : tie.Start
+  start-2 = else1 .before .before .before .before .before
+
+module _ (c : tie.Then3) where
+  abbrev else1-2 : tie.Else1
+  else1-2 = c .before .before .before .before .before
+
+  abbrev start-3 : tie.Start
+  start-3 = else1-2 .before .before .before .before .before
+
 returns-2 : tie.Need-returns-2
-returns-2 c = job-qp _ (c .before .before .before .before .before .before .before .args .job) (c .before .before .if1 .left) (c .if2 .taken)
+returns-2 c = job-qp _ (start c .args .job) (c .before .before .if1 .left) (c .if2 .taken)
 
 returns-3 : tie.Need-returns-3
 returns-3 c =
-    job-shift _ (c .before .before .before .before .before .before .before .before .before .before .args .job)
+    job-shift _ (start-3 c .args .job)
     (c .before .before .before .before .before .if1 .left) (c .before .before .before .if2 .left) (c .if3 .taken)
 
 past-end-requires : tie.Need-past-end-requires
 past-end-requires c κs =
-    let j = c .before .before .before .before .before .before .before .before .before .before .args .job in
+    let j = start-2 c .args .job in
     let s : outside 1 6 (j .«log2_w») || outside 1 6 (j .«log2_h») ≡ false = c .before .before .before .before .before .if1 .left in
     let o = or-neither (outside 1 6 (j .«log2_w»)) (outside 1 6 (j .«log2_h»)) s in
     (outside-no 1 6 (j .«log2_w») (o .0) .1, outside-no 1 6 (j .«log2_h») (o .1) .1)
@@ -29,13 +51,13 @@ past-end-requires c κs =
 returns-4 : tie.Need-returns-4
 returns-4 c =
     let b = c .before .before in
-    job-area _ (b .before .before .before .before .before .before .before .before .before .before .args .job)
+    job-area _ (start-2 b .args .job)
     (b .before .before .before .before .before .if1 .left) (b .before .before .before .if2 .left) (b .if3 .left) _ (c .before .past-end .ensures) (c .if4 .taken)
 
 returns-5 : tie.Need-returns-5
 returns-5 c =
     let b = c .before .before in
-    job-none _ (b .before .before .before .before .before .before .before .before .before .before .args .job)
+    job-none _ (start-2 b .args .job)
     (b .before .before .before .before .before .if1 .left) (b .before .before .before .if2 .left) (b .if3 .left) _ (c .before .past-end .ensures) (c .if4 .left)
 
 pub of-job-spec : {M : Type 1} → statement M

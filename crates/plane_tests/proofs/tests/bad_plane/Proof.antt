@@ -25,9 +25,17 @@ too-short-requires : tie.Need-too-short-requires
 too-short-requires c κs =
     outside-no 1 16384 (c .before .before .before .before .before .args .height) (sym (c .before .before .outside2 .ensures) ∙ c .before .if2 .left)
 
+-- ---- places
+module _ (c : tie.After-too-short) where
+  abbrev after-outside : tie.After-outside
+  after-outside = c .before .before .before .before .before
+
+  abbrev start : tie.Start
+  start = after-outside .before
+
 returns-4 : tie.Need-returns-4
 returns-4 c =
-    let a = c .before .before .before .before .before .before .args in
+    let a = start c .args in
     rw (
       sym (c .before .before .before .before .before .outside .ensures) ∙ c .before .before .before .before .if1 .left,
       sym (c .before .before .before .outside2 .ensures) ∙ c .before .before .if2 .left,

@@ -74,8 +74,16 @@ part-sad-row-start-2 c = omega arith
 part-sad-row-end-2 : tie.Need-part-sad-row-end-2 Inv-loop μ-loop
 part-sad-row-end-2 c = two (c .before)
 
+-- ---- places
+module _ (c : tie.After-sad-row-arg2 Inv-loop μ-loop) where
+  abbrev turn : tie.In-loop Inv-loop μ-loop
+  turn = c .before .before
+
+  abbrev start : tie.Start Inv-loop μ-loop
+  start = turn .before .before .before .before
+
 sad-row-requires : tie.Need-sad-row-requires Inv-loop μ-loop
-sad-row-requires c κs = let s = c .before .before .before .before .before .before in two-parts (s .args .a .now) (s .args .b .now) (s .pre) (omega arith)
+sad-row-requires c κs = let s = start c in two-parts (s .args .a .now) (s .args .b .now) (s .pre) (omega arith)
 
 add-sum : tie.Need-add-sum Inv-loop μ-loop
 add-sum c =
@@ -91,7 +99,7 @@ loop-less c = omega arith
 -- what the rows told, said of the blocks
 loop-again : tie.Need-loop-again Inv-loop μ-loop
 loop-again c =
-    let l = c .before .before .before .before .before .before in
+    let l = turn (c .before .before .before) .before in
     let a = l .before .before .before .args in
     let j = l .loop .j in
     running-row (l .loop .inv) (omega arith)

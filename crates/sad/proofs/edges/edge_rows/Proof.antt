@@ -71,8 +71,20 @@ part-edge-row-start c = omega arith
 part-edge-row-end : tie.Need-part-edge-row-end Inv-loop μ-loop
 part-edge-row-end c = one (c .before)
 
+-- ---- places
+module _ (c : tie.After-edge-row-arg Inv-loop μ-loop) where
+  abbrev turn : tie.In-loop Inv-loop μ-loop
+  turn = c .before .before
+
+  abbrev start : tie.Start Inv-loop μ-loop
+  start = turn .before .before .before .before
+
+module _ (c : tie.After-struct-known2 Inv-loop μ-loop) where
+  abbrev turn-2 : tie.In-loop Inv-loop μ-loop
+  turn-2 = turn (c .before .before .before .before)
+
 mul-edge-row-2 : tie.Need-mul-edge-row-2 Inv-loop μ-loop
-mul-edge-row-2 c = omega (arith, inside (c .before), c .before .before .before .before .before .before .good)
+mul-edge-row-2 c = omega (arith, inside (c .before), start c .good)
 
 sub-edge-row-2 : tie.Need-sub-edge-row-2 Inv-loop μ-loop
 sub-edge-row-2 c = omega (arith, inside (c .before))
@@ -85,13 +97,13 @@ part-edge-row-end-2 c = omega arith
 
 edge-row-requires : tie.Need-edge-row-requires Inv-loop μ-loop
 edge-row-requires c κs =
-    let s = c .before .before .before .before .before .before .before in
+    let s = start (c .before) in
     let a = s .args in
     (part-length (a .org .now) (a .at) (a .stride) (c .before .before .before .before .loop .j) (a .w) (one (c .before .before .before)), s .pre .two .narrow)
 
 add-sum : tie.Need-add-sum Inv-loop μ-loop
 add-sum c =
-    let l = c .before .before .before .before .before .before in
+    let l = turn (c .before .before .before) .before in
     omega (arith, running-next (l .loop .inv) (omega arith) (l .before .before .before .pre .two .low) (c .before .edge-row .ensures .most))
 
 add-j : tie.Need-add-j Inv-loop μ-loop
@@ -103,7 +115,7 @@ loop-less c = omega arith
 -- what the rows told, said of the blocks
 loop-again : tie.Need-loop-again Inv-loop μ-loop
 loop-again c =
-    let l = c .before .before .before .before .before .before .before in
+    let l = turn-2 c .before in
     let a = l .before .before .before .args in
     let j = l .loop .j in
     running-row (l .loop .inv) (omega arith)

@@ -43,9 +43,17 @@ sad-block-requires c κs =
       two = plain-inside (s .args .ref-stride) (plain (c .before)) e (s .pre .two);
     }
 
+-- ---- places
+module _ (c : tie.After-sad-block) where
+  abbrev after-shared-slice-known : tie.After-shared-slice-known
+  after-shared-slice-known = c .before .before .before .before .before
+
+  abbrev start : tie.Start
+  start = after-shared-slice-known .before
+
 returns-2 : tie.Need-returns-2
 returns-2 c =
-    let s = c .before .before .before .before .before .before in
+    let s = start c in
     let a = s .args in
     let e = stands (a .ref-stride) (s .fits .mv-x) (s .fits .mv-y) (c .before .row-start .ensures) in
     blocks-alike apart bitOr (a .w) (same-block (cell 0 (a .org .now) (a .at) (a .stride))) (plain-same (a .ref-stride) (plain (c .before .before)) e (a .reference .now))

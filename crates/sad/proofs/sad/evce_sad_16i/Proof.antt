@@ -19,18 +19,43 @@ use Rattle.sad.proofs.sad.evce_sad_16i.Tie as tie
 sized : (c : tie.Else1) → let a = c .before .before .before .before .args in outside 1 64 (a .w) || outside 1 64 (a .h) ≡ false
 sized c = sym (c .before .bad-sides .ensures) ∙ c .if1 .left
 
-deep : (c : tie.Else2) → outside 8 14 (c .before .before .before .before .before .before .args .depth) ≡ false
+-- ---- places
+module _ (c : tie.Else2) where
+  abbrev after-shared-slice-known : tie.After-shared-slice-known
+  after-shared-slice-known = c .before .before .before .before .before
+
+  abbrev start : tie.Start
+  start = after-shared-slice-known .before
+
+module _ (c : tie.Then4) where
+  abbrev after-bad-depth : tie.After-bad-depth
+  after-bad-depth = c .before .before .before .before .before
+
+  abbrev else1 : tie.Else1
+  else1 = after-bad-depth .before
+
+module _ (c : tie.Else4) where
+  abbrev after-bad-depth-2 : tie.After-bad-depth
+  after-bad-depth-2 = c .before .before .before .before .before
+
+  abbrev else1-2 : tie.Else1
+  else1-2 = after-bad-depth-2 .before
+
+  abbrev start-2 : tie.Start
+  start-2 = else1-2 .before .before .before .before
+
+deep : (c : tie.Else2) → outside 8 14 (start c .args .depth) ≡ false
 deep c = sym (c .before .bad-depth .ensures) ∙ c .if2 .left
 
 one :
     (c : tie.Else3) →
-    let a = c .before .before .before .before .before .before .before .before .args in
+    let a = start (c .before .before) .args in
     outsidePlane (length (a .org .now)) (a .width) (a .height) (a .stride) (a .x) (a .y) (a .w) (a .h) ≡ false
 one c = sym (c .before .outside-plane .ensures) ∙ c .if3 .left
 
 two :
     (c : tie.Else4) →
-    let a = c .before .before .before .before .before .before .before .before .before .before .args in
+    let a = start-2 c .args in
     outsidePlane (length (a .pred .now)) (a .w) (a .h) (a .w) 0 0 (a .w) (a .h) ≡ false
 two c = sym (c .before .outside-plane2 .ensures) ∙ c .if4 .left
 
@@ -46,17 +71,17 @@ returns-3 c =
 
 returns-4 : tie.Need-returns-4
 returns-4 c =
-    sad-second _ _ _ _ _ (sized (c .before .before .before .before .before .before)) (deep (c .before .before .before .before)) (one (c .before .before))
+    sad-second _ _ _ _ _ (sized (else1 c)) (deep (c .before .before .before .before)) (one (c .before .before))
     (sym (c .before .outside-plane2 .ensures) ∙ c .if4 .taken)
 
 -- so both blocks lie inside their buffers
 blocks :
     (c : tie.Else4) →
-    let a = c .before .before .before .before .before .before .before .before .before .before .args in
+    let a = start-2 c .args in
     TwoBlocks (a .w) (a .h) (length (a .org .now)) (a .y * a .stride + a .x) (a .stride) (length (a .pred .now)) 0 (a .w)
 blocks c =
-    let a = c .before .before .before .before .before .before .before .before .before .before .args in
-    let k = sad-sides (a .w) (a .h) (sized (c .before .before .before .before .before .before)) in
+    let a = start-2 c .args in
+    let k = sad-sides (a .w) (a .h) (sized (else1-2 c)) in
     planes-hold (length (a .org .now)) (a .width) (a .height) (a .stride) (a .x) (a .y) (length (a .pred .now)) (a .w) (a .h) (k .0) (k .1) (one (c .before .before)) (two c)
 
 mul-sad-block : tie.Need-mul-sad-block
@@ -72,11 +97,11 @@ returns-5 : tie.Need-returns-5
 returns-5 c =
     let e = c .before .before in
     let d = deep (e .before .before .before .before) in
-    let a = e .before .before .before .before .before .before .before .before .before .before .args in
+    let a = start-2 e .args in
     sad-ends (plane-alike (a .org .now) (a .width) (a .height) (a .stride) (a .x) (a .y) (a .w) (a .h) (a .depth) (a .y * a .stride + a .x) refl)
     (plane-alike (a .pred .now) (a .w) (a .h) (a .w) 0 0 (a .w) (a .h) (a .depth) 0 (omega arith)) (a .depth)
     (c .sad-answer .ensures ∙ sad-totalled _ _ _ _ _ (outside-no 8 14 (a .depth) d) (c .before .sad-block .ensures))
-    (sized (e .before .before .before .before .before .before)) d (one (e .before .before)) (two e)
+    (sized (else1-2 e)) d (one (e .before .before)) (two e)
 
 pub evce-sad-16i-spec : {M : Type 1} → statement M
 evce-sad-16i-spec =

@@ -42,8 +42,16 @@ low-mark-requires c κs = tt
 distance-requires : tie.Need-distance-requires Inv-loop μ-loop
 distance-requires c κs = tt
 
+-- ---- places
+module _ (c : tie.After-distance Inv-loop μ-loop) where
+  abbrev turn : tie.In-loop Inv-loop μ-loop
+  turn = c .before .before .before .before
+
+  abbrev start : tie.Start Inv-loop μ-loop
+  start = turn .before .before .before
+
 add-sum : tie.Need-add-sum Inv-loop μ-loop
-add-sum c = omega (arith, c .distance .ensures .1, c .before .before .before .before .before .before .before .pre)
+add-sum c = omega (arith, c .distance .ensures .1, start c .pre)
 
 add-i : tie.Need-add-i Inv-loop μ-loop
 add-i c = omega arith
@@ -54,7 +62,7 @@ loop-less c = omega arith
 loop-again : tie.Need-loop-again Inv-loop μ-loop
 loop-again c =
     let l = c .before .before .before .before .before .loop in
-    let a = c .before .before .before .before .before .before .before .args in
+    let a = start c .args in
     let z = getD (a .a .now) (l .i) (pos 0) in
     let v : toZ w16 (ofZ w16 z) ≡ z = toZ-ofZ (record { sfits = c .before .before .before .v .given }) in
     running-step (l .inv) (omega arith) (c .distance .ensures .0 ∙ ap (λ (z : ℤ). apartBi z (getD (a .b .now) (l .i) 0)) v)

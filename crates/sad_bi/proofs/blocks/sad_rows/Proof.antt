@@ -94,10 +94,15 @@ add-j c = omega arith
 loop-less : tie.Need-loop-less Inv-loop μ-loop
 loop-less c = omega arith
 
+-- ---- places
+module _ (c : tie.After-struct-known2 Inv-loop μ-loop) where
+  abbrev turn : tie.In-loop Inv-loop μ-loop
+  turn = c .before .before .before .before .before
+
 -- what the rows told, said of the blocks
 loop-again : tie.Need-loop-again Inv-loop μ-loop
 loop-again c =
-    let l = c .before .before .before .before .before .before in
+    let l = turn c .before in
     let a = l .before .before .args in
     let j = l .loop .j in
     running-row (l .loop .inv) (omega arith)

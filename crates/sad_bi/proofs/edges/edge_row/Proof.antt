@@ -23,9 +23,17 @@ sad-row-requires c κs =
     let s = c .before .before .before .before .before in
     record { one = s .pre .0; two = line-length _ _ (s .pre .1) _ _ (c .before .before .edge-row .ensures); small = s .pre .1 }
 
+-- ---- places
+module _ (c : tie.After-sad-row) where
+  abbrev after-shared-slice-known : tie.After-shared-slice-known
+  after-shared-slice-known = c .before .before .before .before .before
+
+  abbrev start : tie.Start
+  start = after-shared-slice-known .before
+
 returns : tie.Need-returns
 returns c =
-    let s = c .before .before .before .before .before .before in
+    let s = start c in
     rows-alike apartBi markBi (same (valueAt (pos 0) (s .args .a .now)))
     (line-same _ _ (s .args .row .now) (s .pre .1) (s .fits .x) (c .before .before .before .edge-row .ensures)) (c .sad-row .ensures)
 

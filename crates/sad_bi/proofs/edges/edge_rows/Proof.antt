@@ -81,15 +81,23 @@ part-edge-row-start-2 c = omega (arith, inside (c .before))
 part-edge-row-end-2 : tie.Need-part-edge-row-end-2 Inv-loop μ-loop
 part-edge-row-end-2 c = omega arith
 
+-- ---- places
+module _ (c : tie.After-edge-row-arg2 Inv-loop μ-loop) where
+  abbrev turn : tie.In-loop Inv-loop μ-loop
+  turn = c .before .before .before
+
+  abbrev start : tie.Start Inv-loop μ-loop
+  start = turn .before .before .before
+
 edge-row-requires : tie.Need-edge-row-requires Inv-loop μ-loop
 edge-row-requires c κs =
-    let s = c .before .before .before .before .before .before in
+    let s = start c in
     let a = s .args in
     (packed-length (a .bi .now) (c .before .before .before .before .loop .j) (a .w) (one (c .before .before .before)), s .pre .two .narrow)
 
 add-sum : tie.Need-add-sum Inv-loop μ-loop
 add-sum c =
-    let l = c .before .before .before .before .before .before in
+    let l = turn (c .before .before) .before in
     omega (arith, running-next (l .loop .inv) (omega arith) (l .before .before .pre .two .low) (c .before .edge-row .ensures .most))
 
 add-j : tie.Need-add-j Inv-loop μ-loop
@@ -101,7 +109,7 @@ loop-less c = omega arith
 -- what the rows told, said of the blocks
 loop-again : tie.Need-loop-again Inv-loop μ-loop
 loop-again c =
-    let l = c .before .before .before .before .before .before .before in
+    let l = turn (c .before .before .before) .before in
     let a = l .before .before .args in
     let j = l .loop .j in
     running-row (l .loop .inv) (omega arith)

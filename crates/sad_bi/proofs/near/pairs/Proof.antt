@@ -49,14 +49,32 @@ mul-u c = omega arith
 shared-slice-copy-out-u : tie.Need-shared-slice-copy-out-u Inv-loop μ-loop
 shared-slice-copy-out-u c = omega (arith, c .before .before .before .before .before .pre .one)
 
+-- ---- places
+module _ (c : tie.After-u Inv-loop μ-loop) where
+  abbrev after-shared-slice-known : tie.After-shared-slice-known Inv-loop μ-loop
+  after-shared-slice-known = c .before .before .before .before .before
+
+  abbrev start : tie.Start Inv-loop μ-loop
+  start = after-shared-slice-known .before
+
+module _ (c : tie.After-near2 Inv-loop μ-loop) where
+  abbrev after-u : tie.After-u Inv-loop μ-loop
+  after-u = c .before .before .before .before .before
+
+  abbrev after-v : tie.After-v Inv-loop μ-loop
+  after-v = after-u .before .before
+
+  abbrev turn-2 : tie.In-loop Inv-loop μ-loop
+  turn-2 = after-v .before
+
 add-p : tie.Need-add-p Inv-loop μ-loop
-add-p c = omega (arith, c .before .before .before .before .before .before .pre .small)
+add-p c = omega (arith, start c .pre .small)
 
 mul-p : tie.Need-mul-p Inv-loop μ-loop
 mul-p c = omega arith
 
 shared-slice-read-p : tie.Need-shared-slice-read-p Inv-loop μ-loop
-shared-slice-read-p c = omega (arith, c .before .before .before .before .before .before .before .pre .two)
+shared-slice-read-p c = omega (arith, start (c .before) .pre .two)
 
 lower-requires : tie.Need-lower-requires Inv-loop μ-loop
 lower-requires c κs = tt
@@ -75,7 +93,7 @@ add-e c = omega (arith, c .near2 .ensures .1, c .before .near .ensures .1)
 
 -- the loop that this turn is in
 abbrev turn : (c : tie.After-near2 Inv-loop μ-loop) → tie.At-loop Inv-loop μ-loop
-turn c = c .before .before .before .before .before .before .before .before .before
+turn c = turn-2 c .before
 
 abbrev sum2 : tie.After-near2 Inv-loop μ-loop → ℕ
 sum2 c = c .before .near .result + c .near2 .result
@@ -106,7 +124,7 @@ loop-again d =
     let B : ℕ → ℕ = λ k. getD (a .b .now) k 0 in
     let f : ℕ → ℕ = λ k. nearBi (A k) (B k) in
     let M : ℕ → ℕ = λ k. lowMark (A k) in
-    let v : toZ w16 (ofZ w16 (A i)) ≡ A i = toZ-ofZ (record { sfits = c .before .before .before .before .before .before .before .v .given }) in
+    let v : toZ w16 (ofZ w16 (A i)) ≡ A i = toZ-ofZ (record { sfits = after-v c .v .given }) in
     let u : toZ w16 (ofZ w16 (A (n + i))) ≡ A (n + i) = toZ-ofZ (record { sfits = c .before .before .before .before .before .u .given }) in
     let one = c .before .before .before .lower in
     let two = c .before .before .lower2 in
@@ -120,7 +138,7 @@ loop-again d =
     ∙ ap₂ bitOr (ap lowMark u)
     (ap lowMark (back w16 (one .result) (one .ok)) ∙ one .ensures ∙ ap (λ (z : ℤ). bitOr (lowMark z) (lowMark (toZ w16 (l .low)))) v)
     in
-    paired-step n f M B (l .inv) (c .before .before .before .before .before .before .before .before .loop-test .taken) e x (d .wrapping-add-u16 .result) p
+    paired-step n f M B (l .inv) (turn-2 c .loop-test .taken) e x (d .wrapping-add-u16 .result) p
     (omega (arith, c .near2 .ensures .1, c .before .near .ensures .1)) s (d .wrapping-add-u16 .ensures)
 
 wrapping-sub-u16-requires : tie.Need-wrapping-sub-u16-requires Inv-loop μ-loop

@@ -20,14 +20,22 @@ sized c = sym (c .before .bad-sides .ensures) ∙ c .if1 .left
 deep : (c : tie.Else2) → outside 8 14 (c .before .before .before .before .before .args .depth) ≡ false
 deep c = sym (c .before .bad-depth .ensures) ∙ c .if2 .left
 
+-- ---- places
+module _ (c : tie.Else3) where
+  abbrev else1 : tie.Else1
+  else1 = c .before .before .before .before
+
+  abbrev start : tie.Start
+  start = else1 .before .before .before
+
 one :
     (c : tie.Else3) →
-    let a = c .before .before .before .before .before .before .before .args in badPlane (length (a .bi .now)) (a .w) (a .h) (a .w) ≡ false
+    let a = start c .args in badPlane (length (a .bi .now)) (a .w) (a .h) (a .w) ≡ false
 one c = sym (c .before .bad-plane .ensures) ∙ c .if3 .left
 
 two :
     (c : tie.Else4) →
-    let a = c .before .before .before .before .before .before .before .before .before .args in
+    let a = start (c .before .before) .args in
     outsidePlane (length (a .pred .now)) (a .w) (a .h) (a .w) 0 0 (a .w) (a .h) ≡ false
 two c = sym (c .before .outside-plane .ensures) ∙ c .if4 .left
 
@@ -42,13 +50,13 @@ returns-3 c = sad-area _ _ _ _ _ (sized (c .before .before .before .before)) (de
 
 returns-4 : tie.Need-returns-4
 returns-4 c =
-    sad-second _ _ _ _ _ (sized (c .before .before .before .before .before .before)) (deep (c .before .before .before .before)) (one (c .before .before))
+    sad-second _ _ _ _ _ (sized (else1 (c .before .before))) (deep (c .before .before .before .before)) (one (c .before .before))
     (sym (c .before .outside-plane .ensures) ∙ c .if4 .taken)
 
 total-requires : tie.Need-total-requires
 total-requires c κs =
-    let a = c .before .before .before .before .before .before .before .before .before .args in
-    let k = sad-sides (a .w) (a .h) (sized (c .before .before .before .before .before .before)) in
+    let a = start (c .before .before) .args in
+    let k = sad-sides (a .w) (a .h) (sized (else1 (c .before .before))) in
     record {
       narrow = k .0 .1;
       low = k .1 .1;
@@ -60,10 +68,10 @@ returns-5 : tie.Need-returns-5
 returns-5 c =
     let e = c .before .before in
     let d = deep (e .before .before .before .before) in
-    let a = e .before .before .before .before .before .before .before .before .before .args in
+    let a = start (e .before .before) .args in
     sad-ends (bi-alike (a .bi .now) (a .w) (a .h)) (plane-alike (a .pred .now) (a .w) (a .h) (a .w) 0 0 (a .w) (a .h) (a .depth) 0 (omega arith)) (a .depth)
     (c .sad-answer .ensures ∙ bi-totalled _ _ _ _ _ (outside-no 8 14 (a .depth) d) (c .before .total .ensures))
-    (sized (e .before .before .before .before .before .before)) d (one (e .before .before)) (two e)
+    (sized (else1 (e .before .before))) d (one (e .before .before)) (two e)
 
 pub evce-sad-bi-16i-spec : {M : Type 1} → statement M
 evce-sad-bi-16i-spec =

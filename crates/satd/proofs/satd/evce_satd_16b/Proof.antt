@@ -24,7 +24,15 @@ use Rattle.satd.proofs.satd.evce_satd_16b.Tie as tie
 sized : (c : tie.Else1) → let a = c .before .before .before .before .args in (outside 2 64 (a .w) || eqb (a .w % 2) 1) || (outside 2 64 (a .h) || eqb (a .h % 2) 1) ≡ false
 sized c = sym (c .before .bad-even-sides .ensures) ∙ c .if1 .left
 
-deep : (c : tie.Else2) → outside 8 14 (c .before .before .before .before .before .before .args .depth) ≡ false
+-- ---- places
+module _ (c : tie.Else2) where
+  abbrev after-shared-slice-known : tie.After-shared-slice-known
+  after-shared-slice-known = c .before .before .before .before .before
+
+  abbrev start : tie.Start
+  start = after-shared-slice-known .before
+
+deep : (c : tie.Else2) → outside 8 14 (start c .args .depth) ≡ false
 deep c = sym (c .before .bad-depth .ensures) ∙ c .if2 .left
 
 returns : tie.Need-returns
@@ -53,7 +61,7 @@ mul-if3 c =
 -- what the areas' tests find is what the definition asks
 areas :
     (c : tie.After-outside-plane) →
-    let a = c .before .before .before .before .before .before .before .args in
+    let a = start (c .before) .args in
     outsidePlane (length (a .org .now)) (a .width) (a .height) (a .stride) (a .x) (a .y) (a .w) (a .h)
     || outsidePlane (length (a .cur .now)) (a .w) (a .h) (a .w) 0 0 (a .w) (a .h)
     ≡ c .outside-plane .result || ltb (length (a .cur .now)) (a .h * a .w)
@@ -71,7 +79,7 @@ returns-3 c =
 -- else both blocks lie inside their buffers
 blocks :
     (c : tie.Else3) →
-    let a = c .before .before .before .before .before .before .before .before .args in
+    let a = start (c .before .before) .args in
     TwoBlocks (a .w) (a .h) (length (a .org .now)) (a .y * a .stride + a .x) (a .stride) (length (a .cur .now)) 0 (a .w)
 blocks c =
     let s = c .before .before .before .before in
@@ -97,11 +105,11 @@ add-of-blocks c = omega (arith, blocks c .one)
 
 of-blocks-requires : tie.Need-of-blocks-requires
 of-blocks-requires c κs =
-    (blocks c, outside-no 8 14 (c .before .before .before .before .before .before .before .before .args .depth) (deep (c .before .before)))
+    (blocks c, outside-no 8 14 (start (c .before .before) .args .depth) (deep (c .before .before)))
 
 returns-4 : tie.Need-returns-4
 returns-4 c =
-    let a = c .before .before .before .before .before .before .before .before .before .args in
+    let a = start (c .before .before .before) .args in
     let p = plane-alike (a .org .now) (a .width) (a .height) (a .stride) (a .x) (a .y) (a .w) (a .h) (a .depth) (a .y * a .stride + a .x) refl in
     let q = plane-alike (a .cur .now) (a .w) (a .h) (a .w) 0 0 (a .w) (a .h) (a .depth) 0 (omega arith) in
     c .of-blocks .ensures ∙ rest-alike p q _ _ (ap (λ (n : ℕ). n / 2 ^ (a .depth - 8)) (satd-alike p q (tileSide (a .w) (a .h))))

@@ -45,19 +45,27 @@ total-requires c κs =
 chosen : (r n m w h : ℕ) (d : ℕ → ℕ → ℤ) → n ≡ m → r ≡ satdTotal n w h d → r ≡ satdTotal m w h d
 chosen r n m w h d e f = f ∙ ap (λ (k : ℕ). satdTotal k w h d) e
 
+-- ---- places
+module _ (c : tie.After-total) where
+  abbrev after-shared-slice-known : tie.After-shared-slice-known
+  after-shared-slice-known = c .before .before .before .before .before
+
+  abbrev start : tie.Start
+  start = after-shared-slice-known .before
+
 -- the total of the tiles that the definition asks for
 summed :
     (c : tie.After-total) →
-    let a = c .before .before .before .before .before .before .args in
+    let a = start c .args in
     c .total .result ≡ satdTotal (tileSide (a .w) (a .h)) (a .w) (a .h) (apartFrom (a .a .now) (a .a-at) (a .a-stride) (a .b .now) 0 (a .w))
 summed c =
-    let a = c .before .before .before .before .before .before .args in
+    let a = start c .args in
     chosen (c .total .result) (c .before .side .result) (tileSide (a .w) (a .h)) (a .w) (a .h)
     (apartFrom (a .a .now) (a .a-at) (a .a-stride) (a .b .now) 0 (a .w)) (c .before .side .ensures) (c .total .ensures)
 
 cast-satd-2 : tie.Need-cast-satd-2
 cast-satd-2 c =
-    let a = c .before .before .before .before .before .before .args in
+    let a = start c .args in
     omega (
       arith,
       div-le-self (c .total .result) (2 ^ (a .depth - 8)),

@@ -74,9 +74,17 @@ part-ssd-row-start-2 c = omega arith
 part-ssd-row-end-2 : tie.Need-part-ssd-row-end-2 Inv-loop μ-loop
 part-ssd-row-end-2 c = two (c .before)
 
+-- ---- places
+module _ (c : tie.After-ssd-row-arg2 Inv-loop μ-loop) where
+  abbrev turn : tie.In-loop Inv-loop μ-loop
+  turn = c .before .before
+
+  abbrev start : tie.Start Inv-loop μ-loop
+  start = turn .before .before .before .before
+
 ssd-row-requires : tie.Need-ssd-row-requires Inv-loop μ-loop
 ssd-row-requires c κs =
-    let s = c .before .before .before .before .before .before in
+    let s = start c in
     (two-parts (s .args .a .now) (s .args .b .now) (s .pre .0) (omega arith), s .pre .1)
 
 add-sum : tie.Need-add-sum Inv-loop μ-loop
@@ -93,7 +101,7 @@ loop-less c = omega arith
 -- what the rows told, said of the blocks
 loop-again : tie.Need-loop-again Inv-loop μ-loop
 loop-again c =
-    let l = c .before .before .before .before .before .before in
+    let l = turn (c .before .before .before) .before in
     let a = l .before .before .before .args in
     let j = l .loop .j in
     running-row (l .loop .inv) (omega arith)

@@ -51,9 +51,17 @@ ssd-block-requires c κs =
       s .pre .1 .1,
     )
 
+-- ---- places
+module _ (c : tie.After-ssd-block) where
+  abbrev after-shared-slice-known : tie.After-shared-slice-known
+  after-shared-slice-known = c .before .before .before .before .before
+
+  abbrev start : tie.Start
+  start = after-shared-slice-known .before
+
 returns-2 : tie.Need-returns-2
 returns-2 c =
-    let s = c .before .before .before .before .before .before in
+    let s = start c in
     let a = s .args in
     let k = plain (c .before .before) in
     let e = c .before .row-start .ensures in

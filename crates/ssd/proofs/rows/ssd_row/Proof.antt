@@ -23,18 +23,26 @@ Inv-loop a b w depth mask shift sum₀ any₀ i₀ sum any i =
 abbrev μ-loop : tie.MeasureT-loop
 μ-loop a b w depth mask shift sum₀ any₀ i₀ sum any i = w - i
 
+-- ---- places
+module _ (c : tie.After-shared-slice-known4 Inv-loop μ-loop) where
+  abbrev after-square-shift : tie.After-square-shift Inv-loop μ-loop
+  after-square-shift = c .before .before .before .before
+
+  abbrev start : tie.Start Inv-loop μ-loop
+  start = after-square-shift .before .before .before
+
 -- the two rows, the place, and the depth
 abbrev rowA : tie.After-share Inv-loop μ-loop → List ℕ
-rowA c = c .before .before .before .before .before .before .before .before .args .a .now
+rowA c = start (c .before) .args .a .now
 
 abbrev rowB : tie.After-share Inv-loop μ-loop → List ℕ
-rowB c = c .before .before .before .before .before .before .before .before .args .b .now
+rowB c = start (c .before) .args .b .now
 
 abbrev at : tie.After-share Inv-loop μ-loop → ℕ
 at c = c .before .before .before .before .loop .i
 
 abbrev depthOf : tie.After-share Inv-loop μ-loop → ℕ
-depthOf c = c .before .before .before .before .before .before .before .before .args .depth
+depthOf c = start (c .before) .args .depth
 
 shl-mask : tie.Need-shl-mask Inv-loop μ-loop
 shl-mask c = omega (arith, c .before .before .pre .1)
@@ -77,7 +85,7 @@ is-low c p q =
 
 share-requires : tie.Need-share-requires Inv-loop μ-loop
 share-requires c κs =
-    let s = c .before .before .before .before .before .before .before in
+    let s = start c in
     let a = s .args in
     let i = c .before .before .before .loop .i in
     let p = getD (a .a .now) i 0 in
@@ -97,11 +105,11 @@ summand c = c .share .ensures ∙ is-low (c .before .before .before .before) (ge
 
 most : (c : tie.After-share Inv-loop μ-loop) → c .share .result ≤ 65535
 most c =
-    omega (arith, summand c, squared-low-le (depthOf c) (getD (rowA c) (at c) 0) (getD (rowB c) (at c) 0) (c .before .before .before .before .before .before .before .before .pre .1 .0))
+    omega (arith, summand c, squared-low-le (depthOf c) (getD (rowA c) (at c) 0) (getD (rowB c) (at c) 0) (start (c .before) .pre .1 .0))
 
 add-sum : tie.Need-add-sum Inv-loop μ-loop
 add-sum c =
-    omega (arith, running-next (c .before .before .before .before .loop .inv) (omega arith) (c .before .before .before .before .before .before .before .before .pre .0 .small) (most c))
+    omega (arith, running-next (c .before .before .before .before .loop .inv) (omega arith) (start (c .before) .pre .0 .small) (most c))
 
 add-i : tie.Need-add-i Inv-loop μ-loop
 add-i c = omega arith

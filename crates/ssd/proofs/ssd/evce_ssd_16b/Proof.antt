@@ -29,7 +29,29 @@ B c w h = let a = c .before .before .args in inPacked (a .cur .now) w h (a .dept
 sized : (c : tie.Else1) → let a = c .before .before .before .before .args in ltb 6 (a .log2-w) || ltb 6 (a .log2-h) ≡ false
 sized c = sym (c .before .bad-logs .ensures) ∙ c .if1 .left
 
-deep : (c : tie.Else2) → outside 8 14 (c .before .before .before .before .before .before .args .depth) ≡ false
+-- ---- places
+module _ (c : tie.Else2) where
+  abbrev after-shared-slice-known : tie.After-shared-slice-known
+  after-shared-slice-known = c .before .before .before .before .before
+
+  abbrev start : tie.Start
+  start = after-shared-slice-known .before
+
+module _ (c : tie.Then4) where
+  abbrev after-bad-depth : tie.After-bad-depth
+  after-bad-depth = c .before .before .before .before .before
+
+  abbrev else1 : tie.Else1
+  else1 = after-bad-depth .before
+
+module _ (c : tie.Else4) where
+  abbrev after-bad-depth-2 : tie.After-bad-depth
+  after-bad-depth-2 = c .before .before .before .before .before
+
+  abbrev else1-2 : tie.Else1
+  else1-2 = after-bad-depth-2 .before
+
+deep : (c : tie.Else2) → outside 8 14 (start c .args .depth) ≡ false
 deep c = sym (c .before .bad-depth .ensures) ∙ c .if2 .left
 
 one :
@@ -41,7 +63,7 @@ one c = sym (c .before .outside-plane .ensures) ∙ c .if3 .left
 
 two :
     (c : tie.Else4) →
-    let s = c .before .before .before .before .before .before in
+    let s = else1-2 c in
     let a = s .before .before .before .before .args in
     outsidePlane (length (a .cur .now)) (shifted (a .log2-w)) (shifted (a .log2-h)) (shifted (a .log2-w)) 0 0 (shifted (a .log2-w)) (shifted (a .log2-h))
     ≡ false
@@ -73,7 +95,7 @@ returns-3 c =
 
 returns-4 : tie.Need-returns-4
 returns-4 c =
-    let s = c .before .before .before .before .before .before in
+    let s = else1 c in
     let a = s .before .before .before .before .args in
     ssd-second (a .log2-w) (a .log2-h) (a .depth) (A (s .before .before)) (B (s .before .before)) (sized s) (deep (c .before .before .before .before))
     (one (c .before .before)) (sym (c .before .outside-plane2 .ensures) ∙ c .if4 .taken)
@@ -81,12 +103,12 @@ returns-4 c =
 -- both blocks lie inside their buffers
 blocks :
     (c : tie.Else4) →
-    let s = c .before .before .before .before .before .before in
+    let s = else1-2 c in
     let a = s .before .before .before .before .args in
     TwoBlocks (shifted (a .log2-w)) (shifted (a .log2-h)) (length (a .org .now)) (a .y * a .stride + a .x) (a .stride) (length (a .cur .now)) 0
     (shifted (a .log2-w))
 blocks c =
-    let s = c .before .before .before .before .before .before in
+    let s = else1-2 c in
     let a = s .before .before .before .before .args in
     let k = shifted-sides (a .log2-w) (a .log2-h) (sized s) in
     planes-hold (length (a .org .now)) (a .width) (a .height) (a .stride) (a .x) (a .y) (length (a .cur .now)) (shifted (a .log2-w)) (shifted (a .log2-h)) (k .0) (k .1)
@@ -107,7 +129,7 @@ end-requires c κs = (outside-no 8 14 _ (deep (c .before .before .before .before
 returns-5 : tie.Need-returns-5
 returns-5 c =
     let e = c .before .before in
-    let s = e .before .before .before .before .before .before in
+    let s = else1-2 e in
     let a = s .before .before .before .before .args in
     let w = shifted (a .log2-w) in
     let h = shifted (a .log2-h) in

@@ -30,7 +30,32 @@ B c w h = let a = c .before .before .args in atEdges (planeOf (a .two .now) (a .
 sized : (c : tie.Else1) → let a = c .before .before .before .before .args in ltb 6 (a .log2-w) || ltb 6 (a .log2-h) ≡ false
 sized c = sym (c .before .bad-logs .ensures) ∙ c .if1 .left
 
-deep : (c : tie.Else2) → outside 8 14 (c .before .before .before .before .before .before .args .depth) ≡ false
+-- ---- places
+module _ (c : tie.Else2) where
+  abbrev after-shared-slice-known : tie.After-shared-slice-known
+  after-shared-slice-known = c .before .before .before .before .before
+
+  abbrev start : tie.Start
+  start = after-shared-slice-known .before
+
+module _ (c : tie.Then4) where
+  abbrev after-bad-depth : tie.After-bad-depth
+  after-bad-depth = c .before .before .before .before .before
+
+  abbrev else1 : tie.Else1
+  else1 = after-bad-depth .before
+
+module _ (c : tie.Else4) where
+  abbrev after-bad-depth-2 : tie.After-bad-depth
+  after-bad-depth-2 = c .before .before .before .before .before
+
+  abbrev else1-2 : tie.Else1
+  else1-2 = after-bad-depth-2 .before
+
+  abbrev start-2 : tie.Start
+  start-2 = else1-2 .before .before .before .before
+
+deep : (c : tie.Else2) → outside 8 14 (start c .args .depth) ≡ false
 deep c = sym (c .before .bad-depth .ensures) ∙ c .if2 .left
 
 -- the positions come as their bits
@@ -40,16 +65,16 @@ one :
     let a = s .before .before .before .before .args in
     outsideEdges (length (a .one .now)) (a .width1) (a .height1) (a .stride1) (a .x) (a .y) (shifted (a .log2-w)) (shifted (a .log2-h)) ≡ false
 one c =
-    let f = c .before .before .before .before .before .before .before .before .fits in
+    let f = start (c .before .before) .fits in
     rw (toZ-ofZ (f .x), toZ-ofZ (f .y)) at (sym (c .before .outside-edges .ensures) ∙ c .if3 .left)
 
 two :
     (c : tie.Else4) →
-    let s = c .before .before .before .before .before .before in
+    let s = else1-2 c in
     let a = s .before .before .before .before .args in
     outsideEdges (length (a .two .now)) (a .width2) (a .height2) (a .stride2) (a .x) (a .y) (shifted (a .log2-w)) (shifted (a .log2-h)) ≡ false
 two c =
-    let f = c .before .before .before .before .before .before .before .before .before .before .fits in
+    let f = start-2 c .fits in
     rw (toZ-ofZ (f .x), toZ-ofZ (f .y)) at (sym (c .before .outside-edges2 .ensures) ∙ c .if4 .left)
 
 returns : tie.Need-returns
@@ -79,7 +104,7 @@ returns-3 c =
 
 returns-4 : tie.Need-returns-4
 returns-4 c =
-    let s = c .before .before .before .before .before .before in
+    let s = else1 c in
     let t = s .before .before .before .before in
     let a = t .args in
     ssd-second (a .log2-w) (a .log2-h) (a .depth) (A (s .before .before)) (B (s .before .before)) (sized s) (deep (c .before .before .before .before))
@@ -88,13 +113,13 @@ returns-4 c =
 -- both blocks read inside their planes
 ready :
     (c : tie.Else4) →
-    let s = c .before .before .before .before .before .before in
+    let s = else1-2 c in
     let a = s .before .before .before .before .args in
     let w = shifted (a .log2-w) in
     let h = shifted (a .log2-h) in
     EdgesIn (length (a .one .now)) (a .stride1) (a .x) (a .y) w h × EdgesIn (length (a .two .now)) (a .stride2) (a .x) (a .y) w h
 ready c =
-    let s = c .before .before .before .before .before .before in
+    let s = else1-2 c in
     let a = s .before .before .before .before .args in
     let w = shifted (a .log2-w) in
     let h = shifted (a .log2-h) in
@@ -105,7 +130,7 @@ ready c =
 
 total-requires : tie.Need-total-requires
 total-requires c κs =
-    let t = c .before .before .before .before .before .before .before .before .before .before in
+    let t = start-2 c in
     rw (toZ-ofZ (t .fits .x), toZ-ofZ (t .fits .y)) (ready c .0, (ready c .1, outside-no 8 14 (t .args .depth) (deep (c .before .before .before .before))))
 
 end-requires : tie.Need-end-requires
@@ -114,7 +139,7 @@ end-requires c κs = (outside-no 8 14 _ (deep (c .before .before .before .before
 returns-5 : tie.Need-returns-5
 returns-5 c =
     let e = c .before .before in
-    let s = e .before .before .before .before .before .before in
+    let s = else1-2 e in
     let t = s .before .before .before .before in
     let a = t .args in
     let w = shifted (a .log2-w) in
