@@ -45,25 +45,25 @@ runs c =
     }
 
 -- ---- places
-module _ (c : tie.After-least2) where
-  abbrev after-slice-known : tie.After-slice-known
+module _ (c : tie.After-least2 Inv-loop μ-loop Inv-loop2 μ-loop2 Inv-loop3 μ-loop3) where
+  abbrev after-slice-known : tie.After-slice-known Inv-loop μ-loop Inv-loop2 μ-loop2 Inv-loop3 μ-loop3
   after-slice-known = c .before .before .before .before .before
 
-  abbrev start : tie.Start
+  abbrev start : tie.Start Inv-loop μ-loop Inv-loop2 μ-loop2 Inv-loop3 μ-loop3
   start = after-slice-known .before .before
 
-module _ (c : tie.After-loop2) where
-  abbrev after-sample : tie.After-sample
+module _ (c : tie.After-loop2 Inv-loop μ-loop Inv-loop2 μ-loop2 Inv-loop3 μ-loop3) where
+  abbrev after-sample : tie.After-sample Inv-loop μ-loop Inv-loop2 μ-loop2 Inv-loop3 μ-loop3
   after-sample = c .before .before .before .before
 
-  abbrev after-least : tie.After-least
+  abbrev after-least : tie.After-least Inv-loop μ-loop Inv-loop2 μ-loop2 Inv-loop3 μ-loop3
   after-least = after-sample .before .before .before
 
-  abbrev start-2 : tie.Start
+  abbrev start-2 : tie.Start Inv-loop μ-loop Inv-loop2 μ-loop2 Inv-loop3 μ-loop3
   start-2 = after-least .before .before .before .before .before
 
-module _ (c : tie.In-loop2) where
-  abbrev start-3 : tie.Start
+module _ (c : tie.In-loop2 Inv-loop μ-loop Inv-loop2 μ-loop2 Inv-loop3 μ-loop3) where
+  abbrev start-3 : tie.Start Inv-loop μ-loop Inv-loop2 μ-loop2 Inv-loop3 μ-loop3
   start-3 = start (c .before .before .before .before .before)
 
 short :
