@@ -19,11 +19,11 @@ FAMILIES = [
     ("laws and definitions", "#e8e2d0", (0, 1560), r"integers|order|evc"),
     ("inverse transform", "#cfe0f3", (0, 600), r"itx.*"),
     ("the transform's calls", "#d9efd8", (560, 1040), r"scaling|dquant|job.*|sub_block"),
-    ("distortion", "#f6dccb", (960, 1560), r"plane_tests|sample_tests|block_rows|sad.*|ssd|diff|satd.*"),
+    ("distortion", "#f6dccb", (900, 1560), r"plane_tests|sample_tests|block_rows|sad.*|ssd|diff|satd.*"),
     ("C and text", "#e6d6ee", (660, 1560), r"boundary|capi|calls"),
 ]
-# these stand just below what stands on them, the others just above what they stand on
-LATE = {"the transform's calls", "C and text"}
+# these families and crates stand just below what stands on them, the others just above what they stand on
+LATE = {"the transform's calls", "C and text", "sample_tests"}
 WIDTH, BOX, HIGH, STEP, TOP = 1560, 104, 26, 74, 54
 
 
@@ -59,7 +59,7 @@ def picture(all_):
         level[name] = 1 + max((level[d] for d in all_[name] if d not in KIT), default=-1)
     for name in reversed(list(all_)):
         above = [level[c] for c in all_ if name in all_[c]]
-        if family(name)[0] in LATE and above:
+        if {name, family(name)[0]} & LATE and above:
             level[name] = min(above) - 1
     top = max(level.values())
     at = {}
