@@ -14,12 +14,13 @@ use block_rows::Totals;
 use evc::Refusal;
 use evc::SquaredDistortion;
 
-// Every SSD ends here: a sample that is too large leaves a bit at or above the depth.
+// Every SSD ends here: a sample that is too large leaves a bit at or above the depth. The test stands here, since by a call of `bad_samples` the rows
+// at negative positions take more instructions.
 fn end(t: Totals, depth: u8) -> SquaredDistortion
     requires { ⌜ (depth ≤ 14) × (t .sum < 2 ^ 63) ⌝ }
     ensures { λ r. ⌜ squaredReading r ≡ reply (first ((number.Sample when leb (2 ^ depth) (t .any)) ∷ [])) (pos (t .sum)) ⌝ }
 {
-    if sample_tests::bad_samples(t.any, depth) {
+    if t.any >> depth != 0 {
         return SquaredDistortion::Refused(Refusal::Sample);
     }
     let ssd = t.sum as i64;
