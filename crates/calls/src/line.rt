@@ -34,11 +34,10 @@ fn buffered(line: &[u8], c: Call) {
 
 // Makes the call.
 fn made(line: &[u8], c: Call) {
-    let n = c.n;
     let tag = c.tag;
     match tag {
         b'?' => entry::usage(),
-        b'a' => answer::scale(scaling::scale(values::byte(n[0]))),
+        b'a' => answer::scale(scaling::scale(values::byte(c.n0))),
         _ => buffered(line, c),
     }
     end();

@@ -1,5 +1,4 @@
 // Reads what a call takes. A buffer is a length and as many numbers, where `N*V` stands for N numbers V; or a length and a value at once, `LENGTH*V`.
-ghost use Prim.Native.Nat.{_<_};
 use crate::choice::either;
 use crate::choice::either_byte;
 use crate::entry::TABLE;
@@ -32,13 +31,29 @@ pub(crate) struct Found {
 }
 
 // A call: its tag, how far it is read, what is wrong, with which kind of number; what it takes, in the line's order, where a buffer stands as the place
-// of the line at which it starts; and the places of its buffers of i16, of i32 and of u16 once more.
+// of the line at which it starts; and the places of its buffers of i16, of i32 and of u16 once more. Sixteen fields and no array: each index would be a
+// place more for the prover to walk, a quarter of this program's check.
 pub(crate) struct Call {
     pub(crate) tag: u8,
     pub(crate) at: usize,
     pub(crate) fault: u8,
     pub(crate) kind: u8,
-    pub(crate) n: [usize; 16],
+    pub(crate) n0: usize,
+    pub(crate) n1: usize,
+    pub(crate) n2: usize,
+    pub(crate) n3: usize,
+    pub(crate) n4: usize,
+    pub(crate) n5: usize,
+    pub(crate) n6: usize,
+    pub(crate) n7: usize,
+    pub(crate) n8: usize,
+    pub(crate) n9: usize,
+    pub(crate) n10: usize,
+    pub(crate) n11: usize,
+    pub(crate) n12: usize,
+    pub(crate) n13: usize,
+    pub(crate) n14: usize,
+    pub(crate) n15: usize,
     pub(crate) shorts: usize,
     pub(crate) words: usize,
     pub(crate) one: usize,
@@ -163,18 +178,30 @@ fn part_at(line: &[u8], at: usize, kind: u8) -> Found {
     }
 }
 
-// The call with what was found at its i-th place.
-fn with(c: Call, i: usize, r: Found, kind: u8) -> Call
-    requires { ⌜ i < 16 ⌝ }
-{
-    let mut n = c.n;
-    n[i] = r.value;
+// The call with what was found at its next place. It goes to the end, and the rest moves down: once all 16 places of the table's row are read, the
+// first stands at n0.
+fn with(c: Call, r: Found, kind: u8) -> Call {
     Call {
         tag: c.tag,
         at: r.at,
         fault: r.fault,
         kind: r.kind,
-        n,
+        n0: c.n1,
+        n1: c.n2,
+        n2: c.n3,
+        n3: c.n4,
+        n4: c.n5,
+        n5: c.n6,
+        n6: c.n7,
+        n7: c.n8,
+        n8: c.n9,
+        n9: c.n10,
+        n10: c.n11,
+        n11: c.n12,
+        n12: c.n13,
+        n13: c.n14,
+        n14: c.n15,
+        n15: r.value,
         shorts: either(kind == b'H', r.value, c.shorts),
         words: either(kind == b'W', r.value, c.words),
         one: either(kind == b'S', r.value, c.one),
@@ -189,7 +216,22 @@ pub(crate) fn bare(tag: u8, at: usize, fault: u8) -> Call {
         at,
         fault,
         kind: NONE,
-        n: [0; 16],
+        n0: 0,
+        n1: 0,
+        n2: 0,
+        n3: 0,
+        n4: 0,
+        n5: 0,
+        n6: 0,
+        n7: 0,
+        n8: 0,
+        n9: 0,
+        n10: 0,
+        n11: 0,
+        n12: 0,
+        n13: 0,
+        n14: 0,
+        n15: 0,
         shorts: 0,
         words: 0,
         one: 0,
@@ -203,7 +245,7 @@ fn parts(line: &[u8], table: &[u8], row: usize, call: Call) -> Call {
     let mut i = 0;
     while i < 16 && c.fault == NOTHING {
         let kind = byte_at(table, std::num::wrapping_add_usize(row, i));
-        c = with(c, i, part_at(line, c.at, kind), kind);
+        c = with(c, part_at(line, c.at, kind), kind);
         i += 1;
     }
     c

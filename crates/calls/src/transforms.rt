@@ -7,47 +7,44 @@ use crate::values::word;
 use evc::Answer;
 
 fn sub_block(c: Call, coef: &mut [i16]) {
-    let n = c.n;
     let call = boundary::sub_block(
-        n[0],
-        n[1],
-        word(n[2]),
-        byte(n[3]),
-        byte(n[4]),
-        byte(n[5]),
-        byte(n[6]),
-        byte(n[7]),
-        n[8],
-        n[9],
-        n[10],
-        byte(n[11]),
-        byte(n[12]),
-        byte(n[13]),
+        c.n0,
+        c.n1,
+        word(c.n2),
+        byte(c.n3),
+        byte(c.n4),
+        byte(c.n5),
+        byte(c.n6),
+        byte(c.n7),
+        c.n8,
+        c.n9,
+        c.n10,
+        byte(c.n11),
+        byte(c.n12),
+        byte(c.n13),
     );
     answer::sub_block(sub_block::evc_sub_block_itdq2(coef, call));
 }
 
 fn job(c: Call, coef: &mut [i16]) -> Answer {
-    let n = c.n;
     let job = evc::job_of(
-        n[0],
-        n[1],
-        n[2],
-        byte(n[3]),
-        word(n[4]),
-        byte(n[5]),
-        byte(n[6]),
+        c.n0,
+        c.n1,
+        c.n2,
+        byte(c.n3),
+        word(c.n4),
+        byte(c.n5),
+        byte(c.n6),
     );
     job::evc_itdq_job(coef, job)
 }
 
 fn called(c: Call, shorts: &mut [i16], words: &mut [i32]) -> Answer {
-    let n = c.n;
     let tag = c.tag;
     match tag {
-        b'b' => dquant::evc_dquant(shorts, n[0], n[1], word(n[2]), word(n[3]), byte(n[4])),
-        b'c' => itx::itxb0(shorts, words, n[0], n[1]),
-        b'd' => itx::itxb1(words, shorts, n[0], n[1], byte(n[2])),
+        b'b' => dquant::evc_dquant(shorts, c.n0, c.n1, word(c.n2), word(c.n3), byte(c.n4)),
+        b'c' => itx::itxb0(shorts, words, c.n0, c.n1),
+        b'd' => itx::itxb1(words, shorts, c.n0, c.n1, byte(c.n2)),
         _ => job(c, shorts),
     }
 }

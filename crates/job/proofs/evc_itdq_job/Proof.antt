@@ -13,7 +13,7 @@ use Rattle.evc.proofs.Jobs.{accepted}
 use Rattle.evc.proofs.AnyOrder.{refused-unchanged}
 use Rattle.evc.proofs.Matches.{is-passed, is-broken}
 use Rattle.scaling.proofs.Scales.{scale-known}
-use Rattle.job.proofs.Areas.{logs-sum, size, area-inside, lent-done}
+use Rattle.job_area.proofs.Areas.{logs-sum, size, area-inside, lent-done}
 use borrow.Author.Needs.{needs}
 use Rattle.job.proofs.evc_itdq_job.Statement.{statement}
 use Rattle.job.proofs.evc_itdq_job.Tie as tie

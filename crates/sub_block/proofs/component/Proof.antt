@@ -9,7 +9,7 @@ use Rattle.evc.specs.Dequantizer.{scale}
 use Rattle.evc.specs.Jobs.{jobNumber}
 use Rattle.evc.proofs.Jobs.{accepted}
 use Rattle.scaling.proofs.Scales.{scale-known}
-use Rattle.job.proofs.Areas.{logs-sum, size, area-inside, lent-done}
+use Rattle.job_area.proofs.Areas.{logs-sum, size, area-inside, lent-done}
 use Rattle.sub_block.proofs.SubBlocks.{flagged-job}
 use borrow.Author.Needs.{needs}
 use Rattle.sub_block.proofs.component.Statement.{statement}
