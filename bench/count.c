@@ -103,6 +103,9 @@ static void stage_one(void) { answer = tv_itxb0(first, 4096, sums, 4096, w, h); 
 static void stage_two(void) { answer = tv_itxb1(words, 4096, diff, 4096, w, h, 12); }
 static void job(void) { answer = tv_job(coef, 12288, 0, w, h, 22, 32, 6, 12); }
 static void sub_block(void) { answer = tv_sub_block(coef, 12288, w, h, 32, 6, 12, 1, 1, 1, 0, 4096, 8192, 22, 22, 22, &component); }
+static void sub_block_luma(void) { answer = tv_sub_block(coef, 12288, w, h, 32, 6, 12, 1, 0, 0, 0, 4096, 8192, 22, 22, 22, &component); }
+static void sub_block_none(void) { answer = tv_sub_block(coef, 12288, w, h, 32, 6, 12, 0, 0, 0, 0, 4096, 8192, 22, 22, 22, &component); }
+static void sub_block_overlap(void) { answer = tv_sub_block(coef, 12288, w, h, 32, 6, 12, 1, 1, 1, 0, 4096, 4096, 22, 22, 22, &component); }
 static void difference(void) { answer = tv_diff(one, SIDE * SIDE, SIDE, SIDE, SIDE, 3, 5, w, h, packed, 4096, 10, diff, 4096); }
 static void satd(void) { answer = tv_satd(one, SIDE * SIDE, SIDE, SIDE, SIDE, 3, 5, w, h, packed, 4096, 10, &value); }
 static void ssd_16b(void) { answer = tv_ssd_16b(one, SIDE * SIDE, SIDE, SIDE, SIDE, 3, 5, w, h, packed, 4096, 10, &square); }
@@ -162,8 +165,17 @@ __attribute__((force_align_arg_pointer)) void _start(void)
     tell("job", job, 2, 5);
     tell("job", job, 3, 4);
     squares("sub_block", sub_block, 1, 7);
+    tell("sub_block_luma", sub_block_luma, 2, 2);
+    tell("sub_block_none", sub_block_none, 2, 2);
+    tell("sub_block_overlap", sub_block_overlap, 2, 2);
     squares("diff", difference, 0, 7);
+    tell("diff", difference, 5, 0);
+    tell("diff", difference, 0, 5);
     sides("satd", satd, 2);
+    tell("satd", satd, 64, 2);
+    tell("satd", satd, 2, 64);
+    tell("satd", satd, 6, 64);
+    tell("satd", satd, 64, 4);
     tell("satd", satd, 3, 3);
     squares("ssd_16b", ssd_16b, 0, 7);
     sides("sad_16i", sad_16i, 1);
