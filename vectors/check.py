@@ -31,7 +31,9 @@ def said(line):
 def main(crate):
     names = Path(crate, 'args').read_text().split()
     assert sorted(names) == sorted(p.name for p in Path(crate, 'data').iterdir()), 'args and data name other files'
-    stdout = text(Path(crate, 'stdout'))
+    stdout, last = text(Path(crate, 'stdout')).rsplit('total: ', 1)
+    read = sum(len(text(Path(crate, 'data', name)).removesuffix('\n').split('\n')) for name in names)
+    assert 'total: ' + last == lines.total(read, stdout.splitlines()) + '\n', 'the last line does not sum up'
     broken, answers = errors.lines_and_answers(names[-1])
     assert text(Path(crate, 'data', names[-1])) == broken and stdout.endswith(answers), f'{names[-1]} is not what cases/errors.py says'
     expected = iter(stdout[:len(stdout) - len(answers)].splitlines())

@@ -87,3 +87,10 @@ def answer(call, number, component=None, value=None, left=None):
     if call['call'] in WRITES:
         text += ' |' + ''.join(f' {v}' for v in left)
     return text
+
+
+def total(read, written):
+    """The last line of all, from how many lines were read and from the lines that were written for them."""
+    first = [line.split(maxsplit=1)[0] for line in written if line.strip()]
+    refused = ', '.join(f'{first.count(str(n))} {name}' for n, name in NAMES.items())
+    return f'total: {read} lines; {first.count("0")} accepted; refused {refused}; {first.count("error:")} errors'

@@ -99,9 +99,11 @@ def main(answer, crate):
     for f in FILES:
         (data / f'{f}.txt').write_text(''.join(line + '\n' for line, _, _ in files[f]))
     broken, said = errors.lines_and_answers('errors.txt')
-    (data / 'errors.txt').write_text(broken)
+    (data / 'errors.txt').write_text(broken, encoding='utf-8')
     Path(crate, 'args').write_text(''.join(f'{f}.txt\n' for f in (*FILES, 'errors')))
     stdout = ''.join(line + '\n' for f in FILES for line in expected[f]) + said
+    read = sum(len(files[f]) for f in FILES) + len(broken.split('\n'))
+    stdout += lines.total(read, stdout.splitlines()) + '\n'
     assert len(stdout) <= MOST_WRITTEN, f'{len(stdout)} bytes are more than rt try takes'
     Path(crate, 'stdout').write_text(stdout)
     count = sum(c is not None for f in FILES for _, c, _ in files[f])

@@ -1,5 +1,5 @@
-"""Lines that are no calls, and what `calls` has to say of them: where (line and column, from 1), what is wrong, how the call is written. Written from its
-messages and the types of the forms. In LINES a ^ marks the column, and is no part of the line."""
+"""Lines that are no calls, and what `calls` has to say of them: where (line and column, from 1, and the argument), what is wrong, how the call is
+written. Written from its messages and the types of the forms. In LINES a ^ marks the column, and is no part of the line."""
 from lines import FORMS, RANGES
 
 SAYS = {'usize': '0..18446744073709551615', 'u8': '0..255', 'bool': '0..1', 'i32': '-2147483648..2147483647', 'i16': '-32768..32767',
@@ -7,6 +7,7 @@ SAYS = {'usize': '0..18446744073709551615', 'u8': '0..255', 'bool': '0..1', 'i32
         'length': 'a length of 0..16384', 'run': '1 to what is left of the buffer'}
 MISSING, NO_NUMBER, RANGE = 'a number is missing, ', 'not a number, ', 'out of range, '
 EXTRA, UNKNOWN = 'more than the call takes', "no such call; 'help' lists them"
+MARK = 'the text starts with a byte-order mark; save it without one'
 
 # what is no error: None and the answer; 4 is the qp of scale 64
 FREE = [
@@ -17,7 +18,7 @@ FREE = [
     ('dquant 2 0 64 0 6 4 1 2*-7 3', None, '0 done | 1 -7 -7 3'), ('dquant 0 0 64 0 6 0', None, '5 AREA |'),
 ]
 LINES = [
-    ('^Scale 4', UNKNOWN), ('^scales 4', UNKNOWN), ('^scal 4', UNKNOWN), ('^4 scale', UNKNOWN), ('^sad 4', UNKNOWN), ('^itxb2 1 1', UNKNOWN),
+    ('^\ufeffscale 4', MARK), ('^\ufeff# a comment', MARK), ('^Scale 4', UNKNOWN), ('^scales 4', UNKNOWN), ('^scal 4', UNKNOWN), ('^4 scale', UNKNOWN), ('^sad 4', UNKNOWN), ('^itxb2 1 1', UNKNOWN),
     ('scale ^', MISSING + SAYS['u8']), ('scale  ^', MISSING + SAYS['u8']), ('scale ^x', NO_NUMBER + SAYS['u8']), ('scale ^-', NO_NUMBER + SAYS['u8']),
     ('scale ^+4', NO_NUMBER + SAYS['u8']), ('scale ^4x', NO_NUMBER + SAYS['u8']), ('scale ^4.0', NO_NUMBER + SAYS['u8']),
     ('scale ^0x4', NO_NUMBER + SAYS['u8']), ('scale ^--4', NO_NUMBER + SAYS['u8']), ('scale ^4-', NO_NUMBER + SAYS['u8']),
@@ -38,34 +39,40 @@ LINES = [
 
 
 def by_form():
-    """For each call: its line ended before each number and buffer, each number one beyond its range, each buffer's number too, and one word too many."""
+    """For each call, with the argument that is wrong: its line ended before each number and buffer, each number one beyond its range, each buffer's number too, and one word too many."""
     for call, form in FORMS.items():
         words = [call]
         for k, (name, kind) in enumerate(form):
             buffer = kind[0] == '['
             kind = kind.strip('[]')
             before = ' '.join(words)
-            yield before + '^', MISSING + SAYS['length' if buffer else kind]
+            yield before + '^', MISSING + SAYS['length' if buffer else kind], name
             lo, hi = RANGES[kind]
             beyond = hi + 1 if k % 2 or lo == 0 and k % 3 else lo - 1
             if buffer:
-                yield f'{before} 1^', MISSING + SAYS[kind]
-                yield f'{before} 2 0 ^{beyond}', RANGE + SAYS[kind]
+                yield f'{before} 1^', MISSING + SAYS[kind], name
+                yield f'{before} 2 0 ^{beyond}', RANGE + SAYS[kind], name
             else:
-                yield f'{before} ^{beyond}', RANGE + SAYS[kind]
+                yield f'{before} ^{beyond}', RANGE + SAYS[kind], name
             words.append('1 0' if buffer else '1')
-        yield ' '.join(words) + ' ^0', EXTRA
+        yield ' '.join(words) + ' ^0', EXTRA, None
+
+
+def with_argument(text, what):
+    """A line of LINES with the argument that is wrong: by the words before the mark, of which a buffer's are the last."""
+    form = FORMS.get(text.replace('^', ' ').split()[0])
+    if form is None or what == EXTRA:
+        return text, what, None
+    return text, what, form[min(len(text[:text.index('^')].split()), len(form)) - 1][0]
 
 
 def lines_and_answers(name):
     """The file's text, whose last line has no end, and what has to be written for it."""
-    broken, said = [], ''
-    for text, what, answer in FREE + [(*line, None) for line in LINES + list(by_form())] + [('scale 4', None, '0 value 64')]:
-        broken.append(text.replace('^', '') if what else text)
-        if what:
-            call = text.replace('^', ' ').split()[0]
-            form = '; ' + ' '.join([call] + [n for n, _ in FORMS[call]]) if call in FORMS else ''
-            said += f'error: {name}, line {len(broken)}, column {text.index("^") + 1}: {what}{form}\n'
-        elif answer:
-            said += answer + '\n'
-    return '\n'.join(broken), said
+    broken, said = [text for text, _, _ in FREE], ''.join(answer + '\n' for _, _, answer in FREE if answer)
+    for text, what, argument in [with_argument(*line) for line in LINES] + list(by_form()):
+        broken.append(text.replace('^', ''))
+        call = text.replace('^', ' ').split()[0]
+        form = '; ' + ' '.join([call] + [n for n, _ in FORMS[call]]) if call in FORMS else ''
+        where = f'column {text.index("^") + 1}' + (f' ({argument})' if argument else '')
+        said += f'error: {name}, line {len(broken)}, {where}: {what}{form}\n'
+    return '\n'.join(broken + ['scale 4']), said + '0 value 64\n'

@@ -1,13 +1,13 @@
 // DIFF, SATD, the SSDs and the SADs.
 use crate::answer;
+use crate::answer::Reply;
 use crate::answer::distortion;
 use crate::answer::squared;
 use crate::read::Call;
-use crate::values;
 use crate::values::byte;
 use crate::values::short;
 
-fn diff(c: Call, org: &[u16], cur: &[u16], diff: &mut [i16]) {
+pub(crate) fn diff(c: Call, org: &[u16], cur: &[u16], diff: &mut [i16]) -> Reply {
     let a = diff::evce_diff_16b(
         org,
         c.n0,
@@ -21,12 +21,11 @@ fn diff(c: Call, org: &[u16], cur: &[u16], diff: &mut [i16]) {
         byte(c.n7),
         diff,
     );
-    answer::call(a);
-    answer::shorts(diff);
+    answer::call(a)
 }
 
 // The calls that write nothing. Four of them have the depth at the same place.
-fn measured(c: Call, bi: &[i16], one: &[u16], two: &[u16]) {
+pub(crate) fn measure(c: Call, bi: &[i16], one: &[u16], two: &[u16]) -> Reply {
     let tag = c.tag;
     let depth = byte(c.n7);
     match tag {
@@ -112,22 +111,4 @@ fn measured(c: Call, bi: &[i16], one: &[u16], two: &[u16]) {
         )),
         _ => distortion(sad_bi::evce_sad_bi_16i(bi, one, c.n0, c.n1, byte(c.n2))),
     }
-}
-
-// Calls, and says what came.
-fn with_one(line: &[u8], c: Call, shorts: &mut [i16], one: &[u16]) {
-    let mut space = [0u16; 16384];
-    let j = values::samples(line, c.two, &mut space);
-    let two = &space[0..j];
-    if c.tag == b'g' {
-        diff(c, one, two, shorts);
-    } else {
-        measured(c, shorts, one, two);
-    }
-}
-
-pub(crate) fn compare(line: &[u8], c: Call, shorts: &mut [i16]) {
-    let mut one = [0u16; 16384];
-    let i = values::samples(line, c.one, &mut one);
-    with_one(line, c, shorts, &one[0..i]);
 }

@@ -1,9 +1,11 @@
 // The calls: how each is written, what it takes, and how it is known here. Of what it takes: n a number of 64 bits, b a byte, f a flag, w an i32,
 // h an i16; and the buffers H of i16, W of i32, S and T of u16.
+use crate::out::Room;
 use crate::out::find;
 use crate::out::row;
 use crate::out::text;
 use crate::out::words;
+use crate::token::byte_at;
 
 pub(crate) type Table = [u8; 481];
 
@@ -49,16 +51,39 @@ The answer: the number and name of a refusal, or 0 and what came; after | the fi
 A line that starts with # is repeated, an empty one is passed over.";
 
 // What the program says where it is given nothing, or 'help'.
-pub(crate) fn usage() {
-    text(&USAGE);
+pub(crate) fn usage(o: &mut Room, at: usize) -> usize {
+    text(o, at, &USAGE)
 }
 
 // How the call is written that the line names from `from` on, if it has a tag of its own.
-pub(crate) fn form(tag: u8, line: &[u8], from: usize) {
+pub(crate) fn form(o: &mut Room, at: usize, tag: u8, line: &[u8], from: usize) -> usize {
     if b'a' <= tag {
-        words(b';');
         let usage = USAGE;
         let u = &usage[..];
-        row(u, std::num::wrapping_add_usize(find(u, line, from), 3));
+        let start = std::num::wrapping_add_usize(find(u, line, from), 3);
+        let next = words(o, at, b';');
+        return row(o, next, u, start, b'\n');
     }
+    at
+}
+
+// Where a text goes on behind some more blanks.
+fn behind(s: &[u8], from: usize, blanks: usize) -> usize {
+    let mut i = from;
+    let mut left = blanks;
+    while i < s.len() && 0 < left {
+        left = std::num::wrapping_sub_usize(left, (byte_at(s, i) == b' ') as usize);
+        i += 1;
+    }
+    i
+}
+
+// The name of a call's argument: that of its form, which has one blank before each.
+pub(crate) fn argument(o: &mut Room, at: usize, line: &[u8], from: usize, place: usize) -> usize {
+    let usage = USAGE;
+    let u = &usage[..];
+    let start = std::num::wrapping_add_usize(find(u, line, from), 3);
+    let mut next = words(o, at, b'(');
+    next = row(o, next, u, behind(u, start, place), b' ');
+    words(o, next, b')')
 }

@@ -1,22 +1,86 @@
-// Standard output, piece by piece. Nothing is kept back, so that no function has to be handed a buffer to say something. What can't be written is told
-// once a line, at its end.
+// Standard output, through a buffer: `o` is its room and `at` how much of it is taken. Whatever says something is handed both, and answers how much is
+// taken then. What can't be written is told once, and from then on `at` is LOST and nothing more is written.
 use crate::token::byte_at;
 use crate::token::is_blank;
 use libc::STDOUT_FILENO;
 
-pub(crate) fn text(s: &[u8]) {
-    io::write_all(STDOUT_FILENO, s);
+pub(crate) type Room = [u8; 65536];
+
+pub(crate) const LOST: usize = usize::MAX;
+
+const SIZE: usize = 65536;
+
+// Writes what is taken.
+pub(crate) fn flush(o: &Room, at: usize) -> usize {
+    if at <= SIZE {
+        let all = &o[..];
+        if io::write_all(STDOUT_FILENO, &all[0..at]) {
+            return 0;
+        }
+        os::fail(b"calls: can't write standard output");
+    }
+    LOST
+}
+
+// Puts a byte at a place, where there is such a place, and answers the next one.
+pub(crate) fn store(to: &mut [u8], at: usize, b: u8) -> usize {
+    if at < to.len() {
+        to[at] = b;
+        return at + 1;
+    }
+    at
+}
+
+pub(crate) fn byte(o: &mut Room, at: usize, b: u8) -> usize {
+    let mut next = at;
+    if at == SIZE {
+        next = flush(o, at);
+    }
+    if next < SIZE {
+        o[next] = b;
+        return next + 1;
+    }
+    next
+}
+
+// What stands in a text from a place on.
+fn tail(o: &mut Room, at: usize, s: &[u8], from: usize) -> usize {
+    let mut next = at;
+    let mut i = from;
+    while i < s.len() {
+        next = byte(o, next, s[i]);
+        i += 1;
+    }
+    next
+}
+
+pub(crate) fn text(o: &mut Room, at: usize, s: &[u8]) -> usize {
+    tail(o, at, s, 0)
 }
 
 // The end of a line.
-pub(crate) fn end() {
-    if !io::write_all(STDOUT_FILENO, b"\n") {
-        os::fail(b"standard output");
-    }
+pub(crate) fn end(o: &mut Room, at: usize) -> usize {
+    byte(o, at, b'\n')
 }
 
-fn byte(b: u8) {
-    text(&[b]);
+// Puts the digits of a number at the end of twenty places, and answers where they start.
+fn digits(n: usize, to: &mut [u8]) -> usize {
+    let figures = &b"0123456789"[..];
+    let mut i = 19;
+    let mut rest = n / 10;
+    store(to, i, byte_at(figures, n % 10));
+    while 0 < i && 0 < rest {
+        i -= 1;
+        store(to, i, byte_at(figures, rest % 10));
+        rest /= 10;
+    }
+    i
+}
+
+pub(crate) fn number(o: &mut Room, at: usize, n: usize) -> usize {
+    let mut spelled = [0u8; 20];
+    let from = digits(n, &mut spelled);
+    tail(o, at, &spelled, from)
 }
 
 // The absolute value. Of the least i64 too, whose negation no i64 holds.
@@ -29,16 +93,16 @@ fn magnitude(v: i64) -> u64 {
 }
 
 // A blank and a number.
-pub(crate) fn signed(v: i64) {
-    byte(b' ');
+pub(crate) fn signed(o: &mut Room, at: usize, v: i64) -> usize {
+    let mut next = byte(o, at, b' ');
     if v < 0 {
-        byte(b'-');
+        next = byte(o, next, b'-');
     }
-    io::print_decimal(STDOUT_FILENO, magnitude(v));
+    number(o, next, magnitude(v) as usize)
 }
 
 // Whether the row behind a place of a text has the name that `key` has from `from` on: where the two part, both end.
-fn named(s: &[u8], at: usize, key: &[u8], from: usize) -> bool {
+pub(crate) fn named(s: &[u8], at: usize, key: &[u8], from: usize) -> bool {
     let mut i = std::num::wrapping_add_usize(at, 3);
     let mut j = from;
     while i < s.len() && (b' ' < byte_at(s, i)) & (byte_at(s, i) == byte_at(key, j)) {
@@ -57,19 +121,23 @@ pub(crate) fn find(s: &[u8], key: &[u8], from: usize) -> usize {
     i
 }
 
-// What stands in a text from a place on, up to its row's end.
-pub(crate) fn row(s: &[u8], from: usize) {
+// What stands in a text from a place on, up to a byte or up to its row's end.
+pub(crate) fn row(o: &mut Room, at: usize, s: &[u8], from: usize, stop: u8) -> usize {
+    let mut next = at;
     let mut i = from;
-    while i < s.len() && s[i] != b'\n' {
-        byte(s[i]);
+    while i < s.len() && (s[i] != b'\n') & (s[i] != stop) {
+        next = byte(o, next, s[i]);
         i += 1;
     }
+    next
 }
 
 // What the program says, each piece behind its tag: answers, components, faults, the ranges of kinds of numbers, and what stands before a fault.
-pub(crate) fn words(tag: u8) {
+pub(crate) fn words(o: &mut Room, at: usize, tag: u8) -> usize {
     let s = &b"
   0 0 done
+  v 0 value
+  |  |
   1 1 SIZE
   2 2 QP
   3 3 SHIFT
@@ -77,17 +145,16 @@ pub(crate) fn words(tag: u8) {
   5 5 AREA
   6 6 OVERLAP
   7 7 SAMPLE
-  v 0 value
   A  Y
   B  U
   C  V
-  |  |
   M : a number is missing
   N : not a number
   R : out of range
   E : more than the call takes
   U : no such call; 'help' lists them
-  L : the line has no room from here on, and is left out
+  O : the text starts with a byte-order mark; save it without one
+  L : a line has at most 524287 bytes; this one is left out
   n , 0..18446744073709551615
   b , 0..255
   f , 0..1
@@ -101,9 +168,22 @@ pub(crate) fn words(tag: u8) {
   , , line 
   i line 
   c , column 
+  (  (
+  ) )
   ; ; 
   u error: can't read 
   a standard input
+  p an argument: it is empty, or longer than 4095 bytes
+  q : there is no such file
+  x : it may not be read
+  d : it is a folder
+  y : the system's error number is
 "[..];
-    row(s, std::num::wrapping_add_usize(find(s, &[tag], 0), 5));
+    row(
+        o,
+        at,
+        s,
+        std::num::wrapping_add_usize(find(s, &[tag], 0), 5),
+        b'\n',
+    )
 }

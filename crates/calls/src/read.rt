@@ -2,8 +2,9 @@
 use crate::choice::either;
 use crate::choice::either_byte;
 use crate::entry::TABLE;
-use crate::out::find;
+use crate::out::named;
 use crate::token::EXTRA;
+use crate::token::MARK;
 use crate::token::MISSING;
 use crate::token::NOTHING;
 use crate::token::OUT_OF_RANGE;
@@ -30,7 +31,7 @@ pub(crate) struct Found {
     pub(crate) kind: u8,
 }
 
-// A call: its tag, how far it is read, what is wrong, with which kind of number; what it takes, in the line's order, where a buffer stands as the place
+// A call: its tag, how far it is read, what is wrong, with which kind of number, at which place of the call from 1 on; what it takes, in the line's order, where a buffer stands as the place
 // of the line at which it starts; and the places of its buffers of i16, of i32 and of u16 once more. Sixteen fields and no array: each index would be a
 // place more for the prover to walk, a quarter of this program's check.
 pub(crate) struct Call {
@@ -38,6 +39,7 @@ pub(crate) struct Call {
     pub(crate) at: usize,
     pub(crate) fault: u8,
     pub(crate) kind: u8,
+    pub(crate) place: usize,
     pub(crate) n0: usize,
     pub(crate) n1: usize,
     pub(crate) n2: usize,
@@ -113,14 +115,26 @@ pub(crate) fn length_at(line: &[u8], at: usize) -> Found {
     }
 }
 
+// The number behind a star, or the one before it.
+fn behind(line: &[u8], t: Token, star: bool) -> Token {
+    if star {
+        token_at(line, std::num::wrapping_add_usize(t.next, 1))
+    } else {
+        t
+    }
+}
+
 // An item of a buffer of which `left` numbers are left: V, or N*V.
 fn item_at(line: &[u8], at: usize, kind: u8, left: usize) -> Found {
     let t = token_at(line, at);
     let star = t.star & (t.fault == NOTHING);
     let bad = star & (t.negative | (t.size == 0) | (left < t.size));
-    let behind = std::num::wrapping_add_usize(t.next, 1);
-    let v = token_at(line, either(star & !bad, behind, at));
-    ranged(v, either_byte(bad, RUN, kind), either(star, t.size, 1))
+    let times = either(star, t.size, 1);
+    ranged(
+        behind(line, t, star & !bad),
+        either_byte(bad, RUN, kind),
+        times,
+    )
 }
 
 // The next number of a buffer: one that is being repeated, or the next item.
@@ -186,6 +200,7 @@ fn with(c: Call, r: Found, kind: u8) -> Call {
         at: r.at,
         fault: r.fault,
         kind: r.kind,
+        place: std::num::wrapping_add_usize(c.place, 1),
         n0: c.n1,
         n1: c.n2,
         n2: c.n3,
@@ -216,6 +231,7 @@ pub(crate) fn bare(tag: u8, at: usize, fault: u8) -> Call {
         at,
         fault,
         kind: NONE,
+        place: 0,
         n0: 0,
         n1: 0,
         n2: 0,
@@ -251,17 +267,35 @@ fn parts(line: &[u8], table: &[u8], row: usize, call: Call) -> Call {
     c
 }
 
+// Before which place of the table the row starts that has the line's first word for its name; or the table's end.
+fn known(table: &[u8], line: &[u8], from: usize) -> usize {
+    let mut i = 0;
+    while i < 480 && !named(table, i, line, from) {
+        i += 32;
+    }
+    i
+}
+
+// What is wrong with a line that starts with a byte and names no call: a byte-order mark starts with one that no text has.
+fn unknown(first: u8) -> u8 {
+    match first {
+        0xef | 0xfe | 0xff => MARK,
+        _ => UNKNOWN,
+    }
+}
+
 // What stands in the line, whose first word starts at `from`.
 pub(crate) fn read(line: &[u8], from: usize) -> Call {
     let table = TABLE;
     let t = &table[..];
-    let at = find(t, line, from);
+    let at = known(t, line, from);
     let tag = byte_at(t, std::num::wrapping_add_usize(at, 31));
+    let fault = unknown(byte_at(line, from));
     let known = tag != NONE;
     let c = bare(
         tag,
         either(known, seek(line, from, true), from),
-        either_byte(known, NOTHING, UNKNOWN),
+        either_byte(known, NOTHING, fault),
     );
     parts(line, t, std::num::wrapping_add_usize(at, 14), c)
 }

@@ -17,6 +17,8 @@ pub(crate) const UNKNOWN: u8 = b'U';
 
 pub(crate) const LONG: u8 = b'L';
 
+pub(crate) const MARK: u8 = b'O';
+
 // A number's sign and size, where it stands, where reading goes on, whether a star stands there, and what is wrong with it.
 pub(crate) struct Token {
     pub(crate) negative: bool,

@@ -5,10 +5,10 @@ use Rattle.calls.proofs.main.Statement.{statement}
 use Rattle.calls.proofs.main.Tie as tie
 
 abbrev Inv-loop : tie.InvT-loop
-Inv-loop count i₀ i = Unit {0}
+Inv-loop room₀ tally₀ count at₀ i₀ room tally at i = Unit {0}
 
 abbrev μ-loop : tie.MeasureT-loop
-μ-loop count i₀ i = count - i
+μ-loop room₀ tally₀ count at₀ i₀ room tally at i = count - i
 
 pub main-spec : {M : Type 1} → statement M
 main-spec =
@@ -24,4 +24,6 @@ main-spec =
     (λ c. search needs)
     (λ c. search needs)
     (λ c. search needs)
+    (λ c κs. search needs)
+    (λ c κs. search needs)
     (λ c. search needs))

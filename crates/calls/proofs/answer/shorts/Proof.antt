@@ -6,10 +6,10 @@ use Rattle.calls.proofs.answer.shorts.Statement.{statement}
 use Rattle.calls.proofs.answer.shorts.Tie as tie
 
 abbrev Inv-loop : tie.InvT-loop
-Inv-loop s i₀ i = Unit {0}
+Inv-loop o₀ at s next₀ i₀ o next i = Unit {0}
 
 abbrev μ-loop : tie.MeasureT-loop
-μ-loop s i₀ i = length s - i
+μ-loop o₀ at s next₀ i₀ o next i = length s - i
 
 pub shorts-spec : {M : Type 1} → statement M
 shorts-spec =

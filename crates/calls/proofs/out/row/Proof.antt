@@ -6,10 +6,10 @@ use Rattle.calls.proofs.out.row.Statement.{statement}
 use Rattle.calls.proofs.out.row.Tie as tie
 
 abbrev Inv-loop : tie.InvT-loop
-Inv-loop s from i₀ i = Unit {0}
+Inv-loop o₀ at s from stop next₀ i₀ o next i = Unit {0}
 
 abbrev μ-loop : tie.MeasureT-loop
-μ-loop s from i₀ i = length s - i
+μ-loop o₀ at s from stop next₀ i₀ o next i = length s - i
 
 pub row-spec : {M : Type 1} → statement M
 row-spec =
@@ -17,6 +17,7 @@ row-spec =
     (tie.spec
     Inv-loop
     μ-loop
+    (λ c. search needs)
     (λ c. search needs)
     (λ c. search needs)
     (λ c. search needs)
