@@ -1,2 +1,3 @@
 -- Laws that the exports share.
 pub mod Laws
+pub mod Done

@@ -5,6 +5,7 @@ pub mod Tests
 pub mod Lowest
 pub mod Jobs
 pub mod AnyOrder
+pub mod ByTheatre
 pub mod SubBlocks
 pub mod Marks
 pub mod Matches

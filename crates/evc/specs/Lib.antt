@@ -13,3 +13,4 @@ pub mod Differences
 pub mod Tiles
 pub mod Calls
 pub mod Numbers
+pub mod Theatres

@@ -12,7 +12,7 @@ use mathlib.Core.List.{Perm, List·Permᴰ, List·Permᴰ·nil, List·Permᴰ·c
 use lib.ListN.{length, getD}
 use lib.Seq.{ext-getD}
 use Rattle.order.specs.Jobs.{Kind, Lawful, after, jobs, answers, samples, owns, Apart, Separate, Ended}
-use Rattle.order.specs.Theatres.{only, SameByTheatre, SeparateTheatres, OwnTheatres}
+use Rattle.order.specs.Theatres.{carrying, only, SameByTheatre, SeparateTheatres, OwnTheatres}
 use Rattle.integers.proofs.Bools.{never-true}
 use Rattle.order.proofs.Positions.{gather-agree}
 use Rattle.order.proofs.OneJob.{accepted-owns, length-after, elsewhere-unchanged, after-agree, apart-prop, apart-sym}
@@ -91,6 +91,19 @@ module _ {A Θ J : Type 0} {w : Kind A J} (l : Lawful w) (dec : Discrete Θ) (th
           alone b js sep ks from j m p o
           ∙ ap (λ x. getD (jobs w x b) p (w .blank)) (sym (same (th j)))
           ∙ sym (alone b js sep js (λ k m. m) j m p o)
+
+-- ---- jobs that carry their theatre do what the jobs themselves do
+module _ {A J K : Type 0} (job : K → J) (w : Kind A J) where
+  pub carrying-lawful : Lawful w → Lawful (carrying job w)
+  carrying-lawful l = record { aset = l .aset; keep = λ k. l .keep (job k); fits = λ n k. l .fits n (job k) }
+
+  pub carrying-jobs : (ks : List K) (b : List A) → jobs (carrying job w) ks b ≡ jobs w (map job ks) b
+  carrying-jobs [] b = refl
+  carrying-jobs (k ∷ ks) b = carrying-jobs ks (after w (job k) b)
+
+  pub carrying-answers : (ks : List K) (b : List A) → answers (carrying job w) ks b ≡ answers w (map job ks) b
+  carrying-answers [] b = refl
+  carrying-answers (k ∷ ks) b = ap (λ l. w .number (length b) (job k) ∷ l) (carrying-answers ks (after w (job k) b))
 
 -- ---- each job under a theatre of its own
 module _ {Θ J : Type 0} (dec : Discrete Θ) (th : J → Θ) where

@@ -6,6 +6,10 @@ use mathlib.Core.HLevel.{Discrete}
 use mathlib.Core.List.{List, filter, Pairwise}
 use Rattle.order.specs.Jobs.{Kind, Apart, owns}
 
+-- a kind of job each of which carries something more, as the theatre that it comes from; job k is the job itself
+abbrev pub carrying : {A J K : Type 0} → (K → J) → Kind A J → Kind A K
+carrying job w = record { blank = w .blank; number = λ n k. w .number n (job k); area = λ k. w .area (job k); block = λ k. w .block (job k) }
+
 -- the jobs of theatre t, in their order
 abbrev pub only : {Θ J : Type 0} → Discrete Θ → (J → Θ) → Θ → List J → List J
 only dec th t js = filter {p = λ j. th j ≡ t} (λ j. dec (th j) t) js

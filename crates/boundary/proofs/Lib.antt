@@ -1,0 +1,2 @@
+-- Laws of what a caller is told.
+pub mod Told
