@@ -162,7 +162,8 @@ def read_told(path, text):
     return {"component": numbers(path, text, r"^componentNumber «?(?P<name>\w+)»? = (?P<number>\d+)$")}
 
 
-READERS = {path: read_export for path in CAPI} | {HEADER: read_header, RAW: read_raw, LIB: read_lib, SUB: read_sub, ANSWERS: read_answers, TOLD: read_told}
+READERS = dict.fromkeys(CAPI, read_export)
+READERS |= {HEADER: read_header, RAW: read_raw, LIB: read_lib, SUB: read_sub, ANSWERS: read_answers, TOLD: read_told}
 # which numbers are held against which
 SAME = [("answer", ANSWERS, HEADER), ("answer", ANSWERS, LIB), ("refusal", ANSWERS, LIB), ("component", TOLD, HEADER), ("component", TOLD, SUB)]
 
