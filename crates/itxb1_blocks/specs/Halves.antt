@@ -32,7 +32,7 @@ pub record TailReads (h a c : List ℤ) (n shift : ℕ) : Type 0 where
   pub small : (k : ℕ) → k < n → natAbs (getD c k (pos 0)) ≤ 4294967296
   pub most : shift ≤ 31
   pub fours : n ≡ 4 * (n / 4)
-  pub some : 0 < n
+  pub some : 16 ≤ n
 
 -- c is what stage two of size N adds at each place of a line: the column's share, and the rounding number
 pub record Offsets (c : List ℤ) (N shift : ℕ) : Type 0 where

@@ -73,7 +73,7 @@ module _ {c : List ℤ} {N shift : ℕ} (o : Offsets c N shift) where
       (within-mono {n = 4294967296} (omega arith) (within-add (column-within N n) (rounding-within shift (o .most))) .bound)
 
   -- with the sums of both halves it is what the tail reads
-  pub tail-reads : {h a : List ℤ} → length h ≡ N * 16 → length a ≡ N * 16 → N ≤ 64 → N ≡ 4 * (N / 4) → 0 < N → TailReads h a c N shift
+  pub tail-reads : {h a : List ℤ} → length h ≡ N * 16 → length a ≡ N * 16 → N ≤ 64 → N ≡ 4 * (N / 4) → 16 ≤ N → TailReads h a c N shift
   tail-reads p q m f s =
       record {
         h-room = omega (arith, p);

@@ -9,24 +9,20 @@ use lib.IntN.{ℤ, pos}
 use mir.Syntax.{w8, w16, w32}
 use Rattle.integers.proofs.Bound.{Within, within-sfits}
 use Rattle.integers.proofs.Expr.{Ex, var, add, mul, loc, bare, Known, arg, small, env, fit, reads}
-use Rattle.itx_lanes.proofs.Bounds.{entry-within, top-within}
+use Rattle.itx_lanes.proofs.Bounds.{top-within}
 use Rattle.itx_lanes.proofs.Steps.{two-terms, two-narrow}
 use Rattle.itx_lanes.proofs.base.first.Statement.{statement}
 use Rattle.itx_lanes.proofs.base.first.Tie as tie
 
--- the two numbers of the table
-module _ (s : tie.Start) where
-  abbrev upper : Known
-  upper =
-      small w8 (getD (s .args .t .now) (s .args .n) (pos 0)) 90
-      (subst (λ (l : List ℤ). Within 90 (getD l (s .args .n) (pos 0))) (sym (s .pre .0)) (top-within (s .args .n) (s .pre .1)))
-      tt
+-- the two numbers of the table; of the other any byte is small enough, so that a wrong row is refused for its product
+abbrev upper : tie.Start → Known
+upper s =
+    small w8 (getD (s .args .t .now) (s .args .n) (pos 0)) 90
+    (subst (λ (l : List ℤ). Within 90 (getD l (s .args .n) (pos 0))) (sym (s .pre .0)) (top-within (s .args .n) (s .pre .1)))
+    tt
 
-  abbrev lower : Known
-  lower =
-      small w8 (getD (s .args .t .now) (2048 + s .args .n) (pos 0)) 90
-      (subst (λ (l : List ℤ). Within 90 (getD l (2048 + s .args .n) (pos 0))) (sym (s .pre .0)) (entry-within 32 (s .args .n) (omega arith) (s .pre .1)))
-      tt
+abbrev lower : tie.After-result3 → Known
+lower c = arg w8 (getD (c .before .before .before .args .t .now) _ (pos 0)) (sfits-of (c .result3 .given))
 
 -- and the two inputs
 abbrev known : tie.After-result4 → ℕ → Known
@@ -35,7 +31,7 @@ known c =
     env (
     upper s
     ∷ arg w16 (getD (s .args .s .now) (s .args .j) (pos 0)) (sfits-of (c .before .before .result2 .given))
-    ∷ lower s
+    ∷ lower (c .before)
     ∷ arg w16 (getD (s .args .s .now) (512 + s .args .j) (pos 0)) (sfits-of (c .result4 .given))
     ∷ []
     )
@@ -73,7 +69,7 @@ element-copy-out-result-3 : tie.Need-element-copy-out-result-3
 element-copy-out-result-3 c = omega (arith, c .before .before .pre .2)
 
 cast-result-3 : tie.Need-cast-result-3
-cast-result-3 c = fit (env (lower (c .before .before .before) ∷ [])) w32 (var 0) tt
+cast-result-3 c = fit (env (lower c ∷ [])) w32 (var 0) tt
 
 add-result-2 : tie.Need-add-result-2
 add-result-2 c = omega (arith, c .before .before .before .pre .2)

@@ -4,6 +4,7 @@ use mathlib.Core.Path.{sym, _∙_, subst}
 use mathlib.Core.List.{[], _∷_}
 use Prim.Native.Nat.{ℕ, _+_, _*_, _-_, _≤_, _<_}
 use native.Mathlib.Omega.{arith}
+use native.Mathlib.Nat.{mul-comm}
 use lib.ListN.{length, getD}
 use lib.IntN.{ℤ, pos, natAbs}
 use mir.Syntax.{w32, w64}
@@ -26,6 +27,12 @@ within c =
     let a = c .before .before .args in
     place (c .before .loop .i) (a .l) (a .j) (a .n) _ (c .loop-test .taken) (c .before .before .pre .1 .0) (c .before .before .pre .1 .1)
 
+-- so is the place with line and input exchanged: a wrong order is refused for what it reads, not for where
+across : (c : tie.In-loop Inv-loop μ-loop) → c .before .before .args .j * c .before .before .args .n + c .before .loop .i < length (c .before .before .args .src .now)
+across c =
+    let a = c .before .before .args in
+    place (a .j) (a .n) (c .before .loop .i) (a .l) _ (c .before .before .pre .1 .0) (c .loop-test .taken) (omega (arith, c .before .before .pre .1 .1, mul-comm (a .l) (a .n)))
+
 module _ (c : tie.After-x Inv-loop μ-loop) where
   abbrev val : ℤ
   val = getD (c .before .before .before .args .src .now) (c .before .before .loop .i * c .before .before .before .args .l + c .before .before .before .args .j) (pos 0)
@@ -40,16 +47,16 @@ loop-holds : tie.Need-loop-holds Inv-loop μ-loop
 loop-holds c = (omega arith, gathered-none (c .pre .0))
 
 mul-x : tie.Need-mul-x Inv-loop μ-loop
-mul-x c = omega (arith, within c)
+mul-x c = omega (arith, within c, across c)
 
 add-x : tie.Need-add-x Inv-loop μ-loop
-add-x c = omega (arith, within c)
+add-x c = omega (arith, within c, across c)
 
 mul-x-2 : tie.Need-mul-x-2 Inv-loop μ-loop
-mul-x-2 c = omega (arith, within c)
+mul-x-2 c = omega (arith, within c, across c)
 
 shared-slice-copy-out-x : tie.Need-shared-slice-copy-out-x Inv-loop μ-loop
-shared-slice-copy-out-x c = within c
+shared-slice-copy-out-x c = omega (arith, within c, across c)
 
 cast-x : tie.Need-cast-x Inv-loop μ-loop
 cast-x c = fit (known c) w64 (var 0) tt

@@ -13,7 +13,7 @@ abbrev μ-loop : tie.MeasureT-loop
 μ-loop h a c dst₀ n j0 shift j₀ dst j = 16 - j
 
 loop-holds : tie.Need-loop-holds Inv-loop μ-loop
-loop-holds c = lanes-none (c .pre .0 .some) (c .pre .1)
+loop-holds c = lanes-none (omega (arith, c .pre .0 .some)) (c .pre .1)
 
 add-tail-line : tie.Need-add-tail-line Inv-loop μ-loop
 add-tail-line c = omega (arith, lanes-word (c .before .before .loop .inv) (c .before .loop-test .taken))

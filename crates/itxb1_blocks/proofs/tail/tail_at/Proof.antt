@@ -11,33 +11,30 @@ use mir.Facts.{toZ-ofZ}
 use Rattle.itxb1_blocks.proofs.tail.tail_at.Statement.{statement}
 use Rattle.itxb1_blocks.proofs.tail.tail_at.Tie as tie
 
--- where it reads
-at-sum : (s : tie.Start) → s .args .k * 16 + s .args .j < s .args .n * 16
-at-sum s = omega (arith, s .pre .1 .0, s .pre .1 .1 .0)
-
-at-sums : (s : tie.Start) → (s .args .k * 16 + s .args .j < length (s .args .h .now)) × (s .args .k * 16 + s .args .j < length (s .args .a .now))
-at-sums s = (omega (arith, at-sum s, s .pre .0 .h-room), omega (arith, at-sum s, s .pre .0 .a-room))
+-- where it reads; the place with lane and place exchanged is in reach too: a wrong order is refused for what it reads, not for where
+at-sum : (s : tie.Start) → (s .args .k * 16 + s .args .j < s .args .n * 16) × (s .args .j * 16 + s .args .k < s .args .n * 16)
+at-sum s = (omega (arith, s .pre .1 .0, s .pre .1 .1 .0), omega (arith, s .pre .0 .some, s .pre .1 .0, s .pre .1 .1 .0))
 
 at-c : (s : tie.Start) → s .args .k < length (s .args .c .now)
 at-c s = omega (arith, s .pre .1 .1 .0, s .pre .0 .c-room)
 
 mul-i : tie.Need-mul-i
-mul-i c = omega (arith, at-sums c .0)
+mul-i c = omega (arith, at-sum c .0, at-sum c .1, c .pre .0 .h-room)
 
 add-i : tie.Need-add-i
-add-i c = omega (arith, at-sums c .0)
+add-i c = omega (arith, at-sum c .0, at-sum c .1, c .pre .0 .h-room)
 
 mul-last : tie.Need-mul-last
-mul-last c = omega (arith, at-sums c .0)
+mul-last c = omega (arith, at-sum c .0, at-sum c .1, c .pre .0 .h-room)
 
 shared-slice-copy-out-last : tie.Need-shared-slice-copy-out-last
-shared-slice-copy-out-last c = omega (arith, at-sums c .0, at-sums c .1)
+shared-slice-copy-out-last c = omega (arith, at-sum c .0, at-sum c .1, c .pre .0 .h-room, c .pre .0 .a-room)
 
 mul-last-2 : tie.Need-mul-last-2
-mul-last-2 c = omega (arith, at-sums (c .before) .1)
+mul-last-2 c = omega (arith, at-sum (c .before) .0, at-sum (c .before) .1, c .before .pre .0 .a-room)
 
 shared-slice-copy-out-last-2 : tie.Need-shared-slice-copy-out-last-2
-shared-slice-copy-out-last-2 c = omega (arith, at-sums (c .before) .0, at-sums (c .before) .1)
+shared-slice-copy-out-last-2 c = omega (arith, at-sum (c .before) .0, at-sum (c .before) .1, c .before .pre .0 .h-room, c .before .pre .0 .a-room)
 
 mul-last-3 : tie.Need-mul-last-3
 mul-last-3 c = omega (arith, at-c (c .before .before))
