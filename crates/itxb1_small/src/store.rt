@@ -34,7 +34,7 @@ fn quotient(v: i64, shift: u8) -> i32
 
 // The first step, for line j of a group.
 pub(crate) fn store_quotients(y: &[i64], z: &mut [i32], n: usize, j: usize, shift: u8)
-    requires { ⌜ ((shift ≤ 31) × ((k : ℕ) → k < n → natAbs (getD (now y) k (pos 0)) ≤ most8)) × ((n ≤ length (now y)) × (j * n + n ≤ length (now z))) ⌝ }
+    requires { ⌜ ((shift ≤ 31) × ((k : ℕ) → k < n → natAbs (getD (now y) k (pos 0)) ≤ most8)) × ((n ≤ length (now y)) × ((j * n + n ≤ length (now z)) × ((j < n) × (n * n ≤ length (now z))))) ⌝ }
     ensures { λ _. ⌜ Next (now (z .entry)) (now (z .exit)) (j * n) n (λ k. clip32 (floorPow (getD (now (y .entry)) k (pos 0)) shift)) ⌝ }
 {
     for k in 0..n {

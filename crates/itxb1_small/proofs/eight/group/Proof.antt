@@ -25,7 +25,7 @@ zeros = replicate 64 (pos 0)
 rows-requires : tie.Need-rows-requires
 rows-requires c κs =
     let s = c .before in
-    (rw (toZ-ofZ (s .fits .add)) (s .pre .0 .0), record { among = s .pre .1 .0; src-room = s .pre .1 .1 .src-room; z-room = omega (arith, s .pre .0 .1) })
+    (rw (toZ-ofZ (s .fits .add)) (s .pre .0 .0), record { among = s .pre .1 .0; src-room = s .pre .1 .1 .src-room; few = s .pre .0 .1; z-room = omega arith })
 
 store-clipped-requires : tie.Need-store-clipped-requires
 store-clipped-requires c κs =

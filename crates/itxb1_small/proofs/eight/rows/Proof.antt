@@ -30,7 +30,7 @@ abbrev turn : tie.After-store-quotients-arg Inv-loop μ-loop → tie.In-loop Inv
 turn c = summed c .before .before .before
 
 loop-holds : tie.Need-loop-holds Inv-loop μ-loop
-loop-holds c = upto-none (c .pre .1 .z-room)
+loop-holds c = upto-none (omega (arith, c .pre .1 .few, c .pre .1 .z-room))
 
 add-line8 : tie.Need-add-line8 Inv-loop μ-loop
 add-line8 c = let h = c .before .before in omega (arith, h .before .before .pre .1 .among, h .loop-test .taken)
@@ -47,9 +47,16 @@ line8-requires c κs =
 
 store-quotients-requires : tie.Need-store-quotients-requires Inv-loop μ-loop
 store-quotients-requires c κs =
-    let y = summed c .line8 .ensures in (
+    let y = summed c .line8 .ensures in
+    let g = turn c .before .before .pre .1 in (
       (turn c .before .before .pre .0 .most, y .small),
-      (omega (arith, y .long), upto-room (turn c .before .loop .inv) (turn c .loop-test .taken)),
+      (
+        omega (arith, y .long),
+        (
+          upto-room (turn c .before .loop .inv) (turn c .loop-test .taken),
+          (omega (arith, turn c .loop-test .taken, g .few), omega (arith, g .z-room, turn c .before .loop .inv .long)),
+        ),
+      ),
     )
 
 add-j : tie.Need-add-j Inv-loop μ-loop

@@ -1,16 +1,16 @@
 -- `itxb1_small::store::store_quotients` meets its contract: place after place. Assumes nothing.
 use borrow.Author.Needs.{sfits-of}
 use mathlib.Core.Path.{ap, _∙_, subst}
-use Prim.Native.Nat.{ℕ, _*_, _-_, _≤_}
+use Prim.Native.Nat.{ℕ, _+_, _*_, _-_, _≤_, _<_}
 use native.Mathlib.Omega.{arith}
-use lib.ListN.{getD}
+use lib.ListN.{length, getD}
 use lib.IntN.{ℤ, pos}
 use mir.Syntax.{w32, w64}
 use mir.Val.{SFits, toZ, ofZ}
 use mir.Facts.{toZ-ofZ}
 use Rattle.integers.specs.Z.{floorPow, clip32}
 use Rattle.itx_halving.specs.Lines.{Next}
-use Rattle.itx_halving.proofs.Lines.{next-none, next-more}
+use Rattle.itx_halving.proofs.Lines.{place, next-none, next-more}
 use Rattle.itxb1_small.proofs.store.store_quotients.Statement.{statement}
 use Rattle.itxb1_small.proofs.store.store_quotients.Tie as tie
 
@@ -36,17 +36,26 @@ quotient-requires c κs =
     let fe : SFits w64 (getD (s .args .y .now) k (pos 0)) = sfits-of (c .quotient-arg .given) in
     rw (toZ-ofZ fe) (s .pre .0 .0, s .pre .0 .1 k (c .before .loop-test .taken))
 
+-- the place with line and place exchanged has room too: a wrong order is refused for what it writes, not for where
+across :
+    (c : tie.After-quotient Inv-loop μ-loop) →
+    let s = c .before .before .before .before in
+    c .before .before .before .loop .k * s .args .n + s .args .j < length (s .args .z .now)
+across c =
+    let s = c .before .before .before .before in
+    place (c .before .before .before .loop .k) (s .args .n) (s .args .j) (s .args .n) _ (c .before .before .loop-test .taken) (s .pre .1 .1 .1 .0) (s .pre .1 .1 .1 .1)
+
 mul-t12 : tie.Need-mul-t12 Inv-loop μ-loop
-mul-t12 c = omega (arith, c .before .before .before .before .pre .1 .1)
+mul-t12 c = omega (arith, c .before .before .before .before .pre .1 .1 .0, across c)
 
 add-t13 : tie.Need-add-t13 Inv-loop μ-loop
-add-t13 c = omega (arith, c .before .before .before .before .pre .1 .1)
+add-t13 c = omega (arith, c .before .before .before .before .pre .1 .1 .0, across c)
 
 mul-t14 : tie.Need-mul-t14 Inv-loop μ-loop
-mul-t14 c = omega (arith, c .before .before .before .before .pre .1 .1)
+mul-t14 c = omega (arith, c .before .before .before .before .pre .1 .1 .0, across c)
 
 slice-set-from-z : tie.Need-slice-set-from-z Inv-loop μ-loop
-slice-set-from-z c = omega (arith, c .before .before .before .before .pre .1 .1, c .before .before .before .loop .inv .1 .long)
+slice-set-from-z c = omega (arith, c .before .before .before .before .pre .1 .1 .0, across c, c .before .before .before .loop .inv .1 .long)
 
 add-k : tie.Need-add-k Inv-loop μ-loop
 add-k c = omega arith
