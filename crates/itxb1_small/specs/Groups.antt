@@ -20,7 +20,7 @@ groupsOf l = (l + 7) / 8
 unfoldable pub quotientAt : ℕ → ℕ → List ℤ → ℕ → ℤ
 quotientAt l shift x place = clip32 (floorPow (product (tm 8) 8 l x (place / 8) (place % 8) +ℤ rounding shift) shift)
 
--- lines j0 .. j0 + m - 1 of l lie within the input, and z has room for 8 lines, of which there are at most so many
+-- lines j0 .. j0 + m - 1 of l, at most 8, lie within the input, and z has room for the numbers of 8
 pub record Group (src z : List ℤ) (l j0 m : ℕ) : Type 0 where
   pub among : j0 + m ≤ l
   pub src-room : 8 * l ≤ length src
