@@ -1,5 +1,5 @@
 // What stage two adds before it shifts. Document 01, "The two stages".
-// Differs from the Rust in: shift 0 adds 0.
+// Differs from the Rust in: it stands once, and is given at every shift, taken modulo 32.
 ghost use mathlib.Core.Path.{_≡_};
 ghost use Prim.Native.Nat.{_%_};
 ghost use Rattle.evc.specs.Stages as stages;

@@ -1,5 +1,5 @@
 // The tests of the two stages, of size 2^log2_size on 2^log2_line lines, with an input of `src` and an output of `dst` places.
-// Differs from the Rust in: it has no such tests; a bad call traps there.
+// Differs from the Rust in: it has no such tests. What a bad call does there, docs/DIFFERENCES.md says.
 ghost use mathlib.Core.Path.{_≡_};
 ghost use Rattle.evc.specs.Answers.{verdictNumber};
 ghost use Rattle.evc.specs.Stages.{stageOneNumber, stageTwoNumber};

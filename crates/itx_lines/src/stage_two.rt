@@ -1,6 +1,6 @@
 // Stage two of the inverse transform, line by line: the Rust's `itx_pb16b1`, `itx_pb32b1` and `itx_pb64b1`, and one call that picks the size.
 // Document 01, "The two stages".
-// Differs from the Rust in: a call that breaks a test is not done; a line is copied first; shift 0 adds 0.
+// Differs from the Rust in: a call that breaks a test is not done; a line is copied first.
 ghost use mathlib.Core.Path.{_≡_};
 ghost use Prim.Native.Nat.{_*_};
 ghost use Rattle.integers.specs.Lists.{written};

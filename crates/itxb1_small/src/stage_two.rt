@@ -1,5 +1,5 @@
 // Stage two of sizes 2 and 4: the Rust's `itx_pb2b1` and `itx_pb4b1`, and one call that picks the size. Document 01, "The two stages".
-// Differs from the Rust in: a call that breaks a test changes nothing; shift 0 adds 0.
+// Differs from the Rust in: a call that breaks a test changes nothing.
 ghost use mathlib.Core.Path.{_≡_};
 ghost use Prim.Native.Nat.{_*_, _^_};
 ghost use lib.ListN.{length};

@@ -1,6 +1,6 @@
 // The sums of line j, stored as one run of the output: the tails of the Rust's `itx_pb2b1` .. `itx_pb8b1`. Document 01, "The two stages".
-// Differs from the Rust in: shift 0 adds 0; size 8 clips its quotients in two steps, to 32 bits and then to 16, since vector units clip
-// eight of 32 bits at once and none of 64.
+// Differs from the Rust in: size 8 clips its quotients in two steps, to 32 bits and then to 16, since vector units clip eight of 32 bits at once
+// and none of 64.
 ghost use mathlib.Core.Path.{_≡_};
 ghost use Prim.Native.Nat.{ℕ, _+_, _*_, _≤_, _<_};
 ghost use lib.ListN.{length, getD};

@@ -1,5 +1,5 @@
 // The tests of a job, which look at no buffer, only at its length. Document 01, "Refusal numbers, in the order they are tested".
-// Differs from the Rust in: it has no such tests; a bad call traps there.
+// Differs from the Rust in: it has no such tests. What a bad call does there, docs/DIFFERENCES.md says.
 ghost use mathlib.Core.Path.{_≡_};
 ghost use Prim.Native.Nat.{_≤_};
 ghost use lib.Dec.{ltb};

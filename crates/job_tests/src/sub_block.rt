@@ -1,5 +1,5 @@
 // The tests of a sub-block call: each flagged component by itself, then the pairs.
-// Differs from the Rust in: it has no such tests; a bad call traps there.
+// Differs from the Rust in: it has no such tests. What a bad call does there, docs/DIFFERENCES.md says.
 ghost use mathlib.Core.Path.{_≡_};
 ghost use mathlib.Core.Bool.{cond};
 ghost use Rattle.evc.specs.Answers.{verdictNumber, subVerdictReading};
