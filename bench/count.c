@@ -1,5 +1,6 @@
 /* Instructions executed by each export, counted exactly by the processor's trap flag: x86-64, without a C library, so that the toolchain's emulator
-   can run it on any machine. One line for each case: its name and the count, from the call to its return. bench/count builds and runs it. */
+   can run it on any machine. One line for each case: its name and the count, from the call to its return. With STACK it is the bytes of stack that the
+   call takes, by the lowest stack pointer of all its instructions, and a last line for the deepest. bench/count builds and runs it. */
 #include "tashvelun.h"
 
 static long call(long n, long a, long b, long c, long d)
@@ -38,26 +39,38 @@ void *memmove(void *to, const void *from, size_t n) { return memcpy(to, from, n)
 
 /* ---- the count */
 static volatile long steps;
-static void trapped(int signal)
+static volatile uint64_t lowest;
+/* the stack pointer stands at this place of what Linux hands to a signal's handler */
+enum { STACK_POINTER = 160 };
+static void trapped(int signal, void *info, void *context)
 {
-    (void)signal;
+    (void)signal, (void)info;
     steps++;
+    uint64_t now = *(uint64_t *)((char *)context + STACK_POINTER);
+    if (now < lowest) lowest = now;
 }
 __asm__(".globl back\nback: mov $15, %eax\nsyscall");
 void back(void);
 struct action {
-    void (*handler)(int);
+    void (*handler)(int, void *, void *);
     unsigned long flags;
     void (*restorer)(void);
     unsigned long mask;
 };
 static __attribute__((noinline)) long counted(void (*f)(void))
 {
+    uint64_t start;
+    __asm__ volatile("mov %%rsp, %0" : "=r"(start));
     steps = 0;
+    lowest = start;
     __asm__ volatile("pushfq; orq $0x100,(%%rsp); popfq" ::: "memory", "cc");
     f();
     __asm__ volatile("pushfq; andq $~0x100,(%%rsp); popfq" ::: "memory", "cc");
+#ifdef STACK
+    return (long)(start - lowest);
+#else
     return steps;
+#endif
 }
 
 /* ---- what is told */
@@ -115,13 +128,16 @@ static void sad_16i(void) { answer = tv_sad_16i(one, SIDE * SIDE, SIDE, SIDE, SI
 static void sad_bi_16b(void) { answer = tv_sad_bi_16b(bi, 4096, two, SIDE * SIDE, SIDE, SIDE, SIDE, at, at, w, h, 10, &value); }
 static void sad_bi_16i(void) { answer = tv_sad_bi_16i(bi, 4096, packed, 4096, w, h, 10, &value); }
 
-static long none;
+static long none, deepest;
+static const char *deepest_name;
+static size_t deepest_w, deepest_h;
 static void tell(const char *name, void (*f)(void), size_t a, size_t b)
 {
     w = a;
     h = b;
     refill();
     long n = counted(f) - none;
+    if (n > deepest) deepest = n, deepest_name = name, deepest_w = a, deepest_h = b;
     out(name);
     out(" ");
     number((long)a);
@@ -142,7 +158,7 @@ static void sides(const char *name, void (*f)(void), size_t from)
 
 __attribute__((force_align_arg_pointer)) void _start(void)
 {
-    static struct action a = {trapped, 0x04000000, back, 0};
+    static struct action a = {trapped, 0x04000004, back, 0};
     call(13, 5, (long)&a, 0, 8);
     for (int i = 0; i < 12288; i++) first[i] = (int16_t)random64();
     for (int i = 0; i < 4096; i++) words[i] = (int32_t)random64(), bi[i] = (int16_t)(random64() & 16383), packed[i] = random64() & 1023;
@@ -186,5 +202,16 @@ __attribute__((force_align_arg_pointer)) void _start(void)
         sides(i ? "sad_16b_negative" : "sad_16b", sad_16b, 1);
         sides(i ? "sad_bi_16b_negative" : "sad_bi_16b", sad_bi_16b, 1);
     }
+#ifdef STACK
+    out("deepest: ");
+    out(deepest_name);
+    out(" ");
+    number((long)deepest_w);
+    out(" ");
+    number((long)deepest_h);
+    out(", ");
+    number(deepest);
+    out(" bytes\n");
+#endif
     call(60, 0, 0, 0, 0);
 }
