@@ -141,13 +141,17 @@ def butterflies(side, name):
     return "\n".join(out)
 
 
-# a pass, which reads its block by the function `read`: its numbers are at most `most` in size, as `within` shows of any row
-def pass_(side, name, read, most, within):
+# a pass, which reads its block by the function `read`: its numbers are at most `most` in size, as `within` shows of any row. Its lines are the rows,
+# or, where it adds the rows, the columns
+def pass_(side, name, read, most, within, adds_rows=False):
     module = f"had_{side}x{side}"
     here = f"Rattle.satd_tiles.proofs.{module}.{name}"
-    rows = name == "row_pass"
+    differences = read == "wide"
+    made, made_within = ("rowsPassed", "rows-passed-within") if adds_rows else ("passed", "passed-within")
+    j, of = ("i", "columns'") if adds_rows else ("j", "rows'")
+    line_of = lambda m, j: f"(λ k. entry {m} k {j})" if adds_rows else f"(entry {m} {j})"
     out = [
-        f"-- `satd_tiles::{module}::{name}` meets its contract. The invariant: the columns passed are filled with the rows' coefficients. Written by",
+        f"-- `satd_tiles::{module}::{name}` meets its contract. The invariant: the columns passed are filled with the {of} coefficients. Written by",
         "-- tools/passes.py. Assumes nothing.",
         "use mathlib.Core.Path.{_≡_, refl, sym, subst}",
         "use mathlib.Core.List.{List, [], _∷_}",
@@ -156,22 +160,24 @@ def pass_(side, name, read, most, within):
         "use native.Mathlib.Omega.{arith}",
         "use lib.Dec.{lit<, lit≤}",
         "use lib.IntN.{ℤ, pos, natAbs}",
-        "use mir.Syntax.{" + ("w16, w32}" if rows else "w32}"),
+        "use mir.Syntax.{" + ("w16, w32}" if differences else "w32}"),
         "use mir.Val.{toZ, ofZ}",
         "use Rattle.integers.specs.Lists.{tab}",
-        "use Rattle.satd_tiles.specs.Passes.{place, entry, BlockWithin, line, wholeLine, passed}",
-        *(["use Rattle.satd_tiles.proofs.Blocks.{entry-within}"] if rows else []),
+        f"use Rattle.satd_tiles.specs.Passes.{{place, entry, BlockWithin, line, wholeLine, {made}}}",
+        *(["use Rattle.satd_tiles.proofs.Blocks.{entry-within}"] if differences else []),
         "use Rattle.satd_tiles.proofs.Lines.{took, took-within, took-line}",
         "use Rattle.satd_tiles.proofs.Columns.{Columns, columns-start, columns-turn, columns-end}",
-        "use Rattle.satd_tiles.proofs.Tiles.{passed-within}",
+        f"use Rattle.satd_tiles.proofs.Tiles.{{{made_within}}}",
         f"use {here}.Statement.{{statement}}",
         f"use {here}.Tie as tie",
         "",
         "abbrev Inv-loop : tie.InvT-loop",
-        f"Inv-loop out₀ m j₀ out j = Columns ℤ (pos 0) {side} (λ b i. line {side} (entry m i) b) out j",
+        f"Inv-loop out₀ m {j}₀ out {j} = Columns ℤ (pos 0) {side} "
+        + ("(λ a i. line 8 (λ k. entry m k i) a)" if adds_rows else f"(λ b i. line {side} (entry m i) b)")
+        + f" out {j}",
         "",
         "abbrev μ-loop : tie.MeasureT-loop",
-        f"μ-loop out₀ m j₀ out j = {side} - j",
+        f"μ-loop out₀ m {j}₀ out {j} = {side} - {j}",
         "",
         "small : (s : tie.Start Inv-loop μ-loop) (j i : ℕ) → natAbs (entry (s .args .t1) j i) ≤ " + str(most),
         f"small s j i = {within}",
@@ -187,21 +193,21 @@ def pass_(side, name, read, most, within):
     for k in range(side):
         places = Places()
         taken = f"{places(k + 1)} .loop-test .taken"
-        need(f"{read}-requires" + (f"-{k + 1}" if k else ""), f"({taken}, lit< tt)", κs=" κs", lets=places)
+        need(f"{read}-requires" + (f"-{k + 1}" if k else ""), f"(lit< tt, {taken})" if adds_rows else f"({taken}, lit< tt)", κs=" κs", lets=places)
     # the row as it was read, and that it is the block's
     last = f"tie.After-{read}{side} Inv-loop μ-loop"
     places = Places()
     calls = [f"{places(side - 1 - k)} .{read}" + (str(k + 1) if k else "") for k in range(side)]
     terms = [f"toZ w32 (ofZ w32 ({call} .result))" for call in calls]
     out += [
-        "-- the row as it was read",
+        f"-- the {'column' if adds_rows else 'row'} as it was read",
         f"abbrev given : {last} → List ℤ",
         *equation("given c", places, [" ∷ ".join(terms[:2]), *("∷ " + " ∷ ".join(terms[k : k + 2]) for k in range(2, side, 2)), "∷ []"]),
         "",
     ]
     took = [f"{'(' if k else ''}took ({call} .result) ({call} .ok) ({call} .ensures)" for k, call in enumerate(calls)]
     of_row = Places()
-    row = f"(entry ({of_row(side + 4)} .args .t1) ({of_row(side + 2)} .loop .j))"
+    row = line_of(f"({of_row(side + 4)} .args .t1)", f"({of_row(side + 2)} .loop .{j})")
     out += [
         "are :",
         f"    (c : {last}) →",
@@ -218,13 +224,14 @@ def pass_(side, name, read, most, within):
         "line-requires",
         [
             f"let s = {start} in",
-            f"let j = {loop} .loop .j in",
-            f"({taken} .loop-test .taken, took-within {side} {bound} (given c) (entry (s .args .t1) j) (are c) (λ i. le-trans (small s j i) (lit≤ tt)))",
+            f"let {j} = {loop} .loop .{j} in",
+            f"({taken} .loop-test .taken, took-within {side} {bound} (given c) {line_of('(s .args .t1)', j)} (are c) "
+            + ("(λ k. le-trans (small s k i) (lit≤ tt)))" if adds_rows else "(λ i. le-trans (small s j i) (lit≤ tt)))"),
         ],
         κs=" κs",
         lets=places,
     )
-    need("add-j", "omega arith")
+    need(f"add-{j}", "omega arith")
     need("loop-less", "omega arith")
     places = Places()
     start, loop, taken = places(side + 5), places(side + 3), places(side + 2)
@@ -234,17 +241,17 @@ def pass_(side, name, read, most, within):
             f"let l = {loop} .loop in",
             f"let row = given (c .before) in",
             f"rw (c .line .ensures)",
-            f"(columns-turn (place (wholeLine {side} row)) (l .inv) ({taken} .loop-test .taken) (took-line {side} row (entry ({start} .args .t1) (l .j)) (are (c .before))))",
+            f"(columns-turn (place (wholeLine {side} row)) (l .inv) ({taken} .loop-test .taken) (took-line {side} row {line_of(f'({start} .args .t1)', f'(l .{j})')} (are (c .before))))",
         ],
         lets=places,
     )
     out += [
         "returns : tie.Need-returns Inv-loop μ-loop",
-        "unfolding passed",
+        f"unfolding {made}",
         "returns c =",
         "    let s = c .before .before .before in",
         "    let e = columns-end (c .before .loop .inv) (omega arith) in",
-        f"    record {{ is = e; within = subst (BlockWithin {side * most}) (sym e) (passed-within {side} {most} (s .args .t1) (small s)) }}",
+        f"    record {{ is = e; within = subst (BlockWithin {side * most}) (sym e) ({made_within} {side} {most} (s .args .t1) (small s)) }}",
         "",
     ]
     needs.append("returns")
@@ -266,10 +273,10 @@ def turned(name, side):
 
 def main():
     texts = {"had_4x4/line": butterflies(4, "line"), "had_8x8/half": butterflies(8, "half")}
+    texts["had_4x4/row_pass"] = pass_(4, "row_pass", "wide", 32768, "entry-within w16 4 4 (s .args .t1) _ (s .good .0) j i")
+    texts["had_8x8/row_pass"] = pass_(8, "row_pass", "at", 32768, "s .pre j i", adds_rows=True)
     for side in (4, 8):
-        texts[f"had_{side}x{side}/row_pass"] = pass_(side, "row_pass", "wide", 32768, f"entry-within w16 {side} {side} (s .args .t1) _ (s .good .0) j i")
         texts[f"had_{side}x{side}/column_pass"] = pass_(side, "column_pass", "at", 32768 * side, "s .pre j i")
-    texts["had_4x4/evc_had_4x4"] = turned("evc_had_8x8", 4)
     for name in ("wide", "row_sum", "sum"):
         texts[f"had_4x4/{name}"] = turned(name, 4)
     texts["had_2x2/wide"] = turned("wide", 2)

@@ -1,4 +1,5 @@
--- Two passes give the tile's coefficients (`two-passes`), and their sizes the tile's sum (`shares`), of any side. Assumes nothing.
+-- Two passes give the tile's coefficients (`two-passes`; the rows added first, turned: `rows-columns`), and their sizes the tile's sum (`shares`,
+-- `shares-by-rows`), of any side. Assumes nothing.
 use mathlib.Core.Path.{_≡_, sym, ap, _∙_}
 use mathlib.Core.List.{List, []}
 use Prim.Native.Nat.{ℕ, suc, _+_, _*_, _/_, _≤_, _<_, zero-le}
@@ -9,10 +10,10 @@ use lib.IntN.{ℤ, pos, _*ℤ_, natAbs, *ℤ-comm}
 use Rattle.integers.specs.Lists.{tab}
 use Rattle.integers.specs.Sum.{ofZ+, ofN+, sumZ, sumN}
 use Rattle.integers.proofs.Ring.{*ℤ-assoc}
-use Rattle.integers.proofs.Sum.{sum-ext, sum-first, sum-times, sum-le}
+use Rattle.integers.proofs.Sum.{sum-ext, sum-first, sum-swap, sum-times, sum-le}
 use Rattle.integers.proofs.Written.{tab-at, tab-length}
 use Rattle.evc.specs.Tiles.{sign, coefficient, share, tileSum}
-use Rattle.satd_tiles.specs.Passes.{place, entry, RowWithin, BlockWithin, line, passed, rowSizes, blockSizes}
+use Rattle.satd_tiles.specs.Passes.{place, entry, RowWithin, BlockWithin, line, passed, rowsPassed, rowSizes, blockSizes}
 use Rattle.satd_tiles.proofs.Lines.{line-within, line-ext}
 
 -- ---- entries of a block that is made entry by entry
@@ -57,6 +58,28 @@ two-passes n d a b p q =
     ∙ line-ext n (entry (passed n d) b) (λ j. line n (entry d j) b) a (λ j r. passed-at n d b j q r)
     ∙ line-line n (entry d) a b
 
+-- ---- the rows added first: then the column pass leaves the coefficients turned
+pub rows-passed-within : (n B : ℕ) (m : List (List ℤ)) → BlockWithin B m → BlockWithin (n * B) (rowsPassed n m)
+unfolding rowsPassed
+rows-passed-within n B m h = made-within n (λ a i. line n (λ j. entry m j i) a) (n * B) (λ a i. line-within B n (λ j. entry m j i) a (λ j. h j i))
+
+rows-passed-at : (n : ℕ) (m : List (List ℤ)) (a i : ℕ) → a < n → i < n → entry (rowsPassed n m) a i ≡ line n (λ j. entry m j i) a
+unfolding rowsPassed
+rows-passed-at n m a i p q = made-at n (λ a i. line n (λ j. entry m j i) a) a i p q
+
+coefficient-turned : (n : ℕ) (d : ℕ → ℕ → ℤ) (a b : ℕ) → coefficient n (λ i j. d j i) b a ≡ coefficient n d a b
+unfolding coefficient
+coefficient-turned n d a b =
+    sum-swap ofZ+ n n (λ i j. d j i *ℤ sign b i *ℤ sign a j)
+    ∙ sum-ext ofZ+ n (λ j. sumZ n (λ i. d j i *ℤ sign b i *ℤ sign a j)) (λ j. sumZ n (λ i. d j i *ℤ sign a j *ℤ sign b i))
+    (λ j p. sum-ext ofZ+ n (λ i. d j i *ℤ sign b i *ℤ sign a j) (λ i. d j i *ℤ sign a j *ℤ sign b i) (λ i q. turn (d j i) (sign b i) (sign a j)))
+
+rows-columns : (n : ℕ) (d : List (List ℤ)) (a b : ℕ) → a < n → b < n → entry (passed n (rowsPassed n d)) b a ≡ coefficient n (entry d) a b
+rows-columns n d a b p q =
+    passed-at n (rowsPassed n d) b a q p
+    ∙ line-ext n (entry (rowsPassed n d) a) (λ i. line n (λ j. entry d j i) a) b (λ i r. rows-passed-at n d a i p r)
+    ∙ line-line n (λ i j. entry d j i) b a ∙ coefficient-turned n (entry d) a b
+
 -- ---- sums of sizes
 pub row-most : (n B : ℕ) (x : List ℤ) → RowWithin B x → rowSizes n x ≤ n * B
 unfolding rowSizes
@@ -68,6 +91,14 @@ sizes-are n d =
     sum-ext ofN+ n (λ a. rowSizes n (getD (passed n (passed n d)) a [])) (λ a. sumN n (λ b. natAbs (coefficient n (entry d) a b)))
     (λ a p. sum-ext ofN+ n (λ b. natAbs (entry (passed n (passed n d)) a b)) (λ b. natAbs (coefficient n (entry d) a b))
     (λ b q. ap natAbs (two-passes n d a b p q)))
+
+sizes-turned : (n : ℕ) (d : List (List ℤ)) → blockSizes n (passed n (rowsPassed n d)) ≡ sumN n (λ a. sumN n (λ b. natAbs (coefficient n (entry d) a b)))
+unfolding blockSizes rowSizes
+sizes-turned n d =
+    sum-ext ofN+ n (λ b. rowSizes n (getD (passed n (rowsPassed n d)) b [])) (λ b. sumN n (λ a. natAbs (coefficient n (entry d) a b)))
+    (λ b q. sum-ext ofN+ n (λ a. natAbs (entry (passed n (rowsPassed n d)) b a)) (λ a. natAbs (coefficient n (entry d) a b))
+    (λ a p. ap natAbs (rows-columns n d a b p q)))
+    ∙ sum-swap ofN+ n n (λ b a. natAbs (coefficient n (entry d) a b))
 
 -- with the first number of all taken out, and a quarter of it put back, a sum of sizes is the sum of shares
 quarter : (n : ℕ) (f : ℕ → ℕ → ℕ)
@@ -93,4 +124,18 @@ unfolding tileSum
 shares {n} {all} {dc} {d} {m} {c} t =
     let e : c ≡ passed (suc n) (passed (suc n) d) = t .columns ∙ ap (passed (suc n)) (t .rows) in
     rw (t .total, t .first, e, sizes-are (suc n) d, two-passes (suc n) d 0 0 (omega arith) (omega arith))
+    (quarter n (λ a b. natAbs (coefficient (suc n) (entry d) a b)))
+
+-- the same with the rows added first
+pub record ByRows (n : ℕ) (d m c : List (List ℤ)) (all dc : ℕ) : Type 0 where
+  pub rows : m ≡ rowsPassed n d
+  pub columns : c ≡ passed n m
+  pub total : all ≡ blockSizes n c
+  pub first : dc ≡ natAbs (entry c 0 0)
+
+pub shares-by-rows : {n all dc : ℕ} {d m c : List (List ℤ)} → ByRows (suc n) d m c all dc → (tileSum (suc n) (entry d) + dc ≡ all + dc / 4) × (dc ≤ all)
+unfolding tileSum
+shares-by-rows {n} {all} {dc} {d} {m} {c} t =
+    let e : c ≡ passed (suc n) (rowsPassed (suc n) d) = t .columns ∙ ap (passed (suc n)) (t .rows) in
+    rw (t .total, t .first, e, sizes-turned (suc n) d, rows-columns (suc n) d 0 0 (omega arith) (omega arith))
     (quarter n (λ a b. natAbs (coefficient (suc n) (entry d) a b)))

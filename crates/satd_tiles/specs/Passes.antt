@@ -51,6 +51,14 @@ pub record Passed (n B : ℕ) (m r : List (List ℤ)) : Type 0 where
   pub is : r ≡ passed n m
   pub within : BlockWithin B r
 
+-- the pass over the rows of a tile of 8 by 8: row a is the sum of all rows, each with its sign, so that each column becomes its coefficients
+unfoldable pub rowsPassed : ℕ → List (List ℤ) → List (List ℤ)
+rowsPassed n m = tab n (λ a. tab n (λ i. line n (λ j. entry m j i) a))
+
+pub record RowsPassed (n B : ℕ) (m r : List (List ℤ)) : Type 0 where
+  pub is : r ≡ rowsPassed n m
+  pub within : BlockWithin B r
+
 -- the sizes of a row's numbers, and of a block's, added
 unfoldable pub rowSizes : ℕ → List ℤ → ℕ
 rowSizes n x = sumN n (λ i. natAbs (place x i))

@@ -1,12 +1,26 @@
 // `evc_had_8x8`, after the Rust's function of that name. Document 01, "Distortion".
-// Differs from the Rust in: the differences are handed in. A pass also turns the block, so that the column pass finds the columns as rows and
-// is the same step. All coefficients' sizes are added, and the DC's taken out again: it has another share.
+// Differs from the Rust in: the differences are handed in. The rows are added and subtracted first, whole, so that the block is turned only once,
+// by the column pass. All coefficients' sizes are added, and the DC's taken out again: it has another share.
 ghost use mathlib.Core.Path.{_≡_};
 ghost use mathlib.Core.List.{[], _∷_};
 ghost use Prim.Native.Nat.{_<_};
 ghost use lib.ListN.{getD};
+ghost use Rattle.integers.specs.Lists.{tab};
 ghost use Rattle.evc.specs.Tiles.{tileNumber};
-ghost use Rattle.satd_tiles.specs.Passes.{place, entry, RowWithin, BlockWithin, Passed, put, puts, four, wholeLine, rowSizes, blockSizes};
+ghost use Rattle.satd_tiles.specs.Passes.{
+  place,
+  entry,
+  RowWithin,
+  BlockWithin,
+  RowsPassed,
+  Passed,
+  put,
+  puts,
+  four,
+  wholeLine,
+  rowSizes,
+  blockSizes,
+};
 
 // Row j, column i of a block, and the same of the differences, in 32 bits.
 fn at(m: &[[i32; 8]; 8], j: usize, i: usize) -> i32
@@ -66,31 +80,56 @@ fn line(
     half(out, 4, j, x0 - x4, x1 - x5, x2 - x6, x3 - x7);
 }
 
-// The row pass. Row b of the result holds coefficient b of every row, in the order of the rows. A difference needs 16 bits, and a sum of
-// eight of them 3 more.
-fn row_pass(diff: [[i16; 8]; 8]) -> [[i32; 8]; 8]
-    ensures { λ r. ⌜ Passed 8 262144 diff r ⌝ }
+// Row j of the differences, and all of them, in 32 bits.
+fn wide_row(diff: &[[i16; 8]; 8], j: usize) -> [i32; 8]
+    requires { ⌜ j < 8 ⌝ }
+    ensures { λ r. ⌜ r ≡ tab 8 (entry (now (diff .entry)) j) ⌝ }
+{
+    let mut out = [0i32; 8];
+    for i in 0..8 {
+        out[i] = wide(diff, j, i);
+    }
+    out
+}
+
+fn widened(diff: [[i16; 8]; 8]) -> [[i32; 8]; 8]
+    ensures { λ r. ⌜ r ≡ diff ⌝ }
 {
     let mut out = [[0i32; 8]; 8];
     let d = &diff;
     for j in 0..8 {
+        out[j] = wide_row(d, j);
+    }
+    out
+}
+
+// The row pass adds and subtracts the rows: row a of the result is the sum of all rows, each with its sign. A difference needs 16 bits, and a
+// sum of eight of them 3 more.
+fn row_pass(block: [[i32; 8]; 8]) -> [[i32; 8]; 8]
+    requires { ⌜ BlockWithin 32768 block ⌝ }
+    ensures { λ r. ⌜ RowsPassed 8 262144 block r ⌝ }
+{
+    let mut out = [[0i32; 8]; 8];
+    let d = &block;
+    for i in 0..8 {
         line(
             &mut out,
-            j,
-            wide(d, j, 0),
-            wide(d, j, 1),
-            wide(d, j, 2),
-            wide(d, j, 3),
-            wide(d, j, 4),
-            wide(d, j, 5),
-            wide(d, j, 6),
-            wide(d, j, 7),
+            i,
+            at(d, 0, i),
+            at(d, 1, i),
+            at(d, 2, i),
+            at(d, 3, i),
+            at(d, 4, i),
+            at(d, 5, i),
+            at(d, 6, i),
+            at(d, 7, i),
         );
     }
     out
 }
 
-// The column pass takes on what the row pass made: row b of it is column b of the tile.
+// The column pass takes on what the row pass made, and does the same with its columns: row b of the result is the sum of all columns, each with
+// its sign.
 fn column_pass(m: [[i32; 8]; 8]) -> [[i32; 8]; 8]
     requires { ⌜ BlockWithin 262144 m ⌝ }
     ensures { λ r. ⌜ Passed 8 2097152 m r ⌝ }
@@ -141,9 +180,10 @@ fn sum(m: &[[i32; 8]; 8]) -> u32
 pub fn evc_had_8x8(diff: [[i16; 8]; 8]) -> u32
     ensures { λ r. ⌜ r ≡ tileNumber 8 (entry diff) ⌝ }
 {
-    let m = row_pass(diff);
-    let block = column_pass(m);
-    let c = &block;
+    let block = widened(diff);
+    let m = row_pass(block);
+    let coefficients = column_pass(m);
+    let c = &coefficients;
     let all = sum(c);
     let dc = integers::abs_i32(at(c, 0, 0));
     satd_rules::number_8(all - dc, dc)

@@ -1,5 +1,4 @@
 -- `satd_tiles::had_4x4::evc_had_4x4` meets its contract: what the passes leave are the tile's coefficients (proofs/Tiles.antt). Assumes nothing.
--- Written by tools/passes.py, from that of 8 by 8.
 use mathlib.Core.Path.{ap, _∙_}
 use native.Mathlib.Omega.{arith}
 use lib.Dec.{lit<}
