@@ -141,8 +141,8 @@ def butterflies(side, name):
     return "\n".join(out)
 
 
-# a pass, which reads its block by the function `read`: its numbers are at most `most` in size, as `within` shows of any row. Its lines are the rows,
-# or, where it adds the rows, the columns
+# a pass, which reads its block by the function `read`: its numbers are at most `most` in size, as `within` shows of any row. The lines that it reads
+# are the rows, or, where it adds the rows, the columns
 def pass_(side, name, read, most, within, adds_rows=False):
     module = f"had_{side}x{side}"
     here = f"Rattle.satd_tiles.proofs.{module}.{name}"
@@ -172,9 +172,7 @@ def pass_(side, name, read, most, within, adds_rows=False):
         f"use {here}.Tie as tie",
         "",
         "abbrev Inv-loop : tie.InvT-loop",
-        f"Inv-loop out₀ m {j}₀ out {j} = Columns ℤ (pos 0) {side} "
-        + ("(λ a i. line 8 (λ k. entry m k i) a)" if adds_rows else f"(λ b i. line {side} (entry m i) b)")
-        + f" out {j}",
+        f"Inv-loop out₀ m {j}₀ out {j} = Columns ℤ (pos 0) {side} (λ b i. line {side} {line_of('m', 'i')} b) out {j}",
         "",
         "abbrev μ-loop : tie.MeasureT-loop",
         f"μ-loop out₀ m {j}₀ out {j} = {side} - {j}",
@@ -194,7 +192,7 @@ def pass_(side, name, read, most, within, adds_rows=False):
         places = Places()
         taken = f"{places(k + 1)} .loop-test .taken"
         need(f"{read}-requires" + (f"-{k + 1}" if k else ""), f"(lit< tt, {taken})" if adds_rows else f"({taken}, lit< tt)", κs=" κs", lets=places)
-    # the row as it was read, and that it is the block's
+    # the line as it was read, and that it is the block's
     last = f"tie.After-{read}{side} Inv-loop μ-loop"
     places = Places()
     calls = [f"{places(side - 1 - k)} .{read}" + (str(k + 1) if k else "") for k in range(side)]
@@ -220,13 +218,13 @@ def pass_(side, name, read, most, within, adds_rows=False):
     places = Places()
     start, loop, taken = places(side + 4), places(side + 2), places(side + 1)
     bound = 524288 if side == 4 else 262144
+    sizes = "(λ k. le-trans (small s k i) (lit≤ tt))" if adds_rows else "(λ i. le-trans (small s j i) (lit≤ tt))"
     need(
         "line-requires",
         [
             f"let s = {start} in",
             f"let {j} = {loop} .loop .{j} in",
-            f"({taken} .loop-test .taken, took-within {side} {bound} (given c) {line_of('(s .args .t1)', j)} (are c) "
-            + ("(λ k. le-trans (small s k i) (lit≤ tt)))" if adds_rows else "(λ i. le-trans (small s j i) (lit≤ tt)))"),
+            f"({taken} .loop-test .taken, took-within {side} {bound} (given c) {line_of('(s .args .t1)', j)} (are c) {sizes})",
         ],
         κs=" κs",
         lets=places,

@@ -111,29 +111,22 @@ quarter n f =
     let e = sum-first ofN+ n (f 0) in
     (omega arith, omega arith)
 
--- a tile d by the code: the passes m and c, the sum of all sizes, and the DC's size
-pub record ByPasses (n : ℕ) (d m c : List (List ℤ)) (all dc : ℕ) : Type 0 where
-  pub rows : m ≡ passed n d
+-- a tile d by the code, whose first pass is `pass`: the passes m and c, the sum of all sizes, and the DC's size
+pub record ByPasses (n : ℕ) (pass : List (List ℤ) → List (List ℤ)) (d m c : List (List ℤ)) (all dc : ℕ) : Type 0 where
+  pub rows : m ≡ pass d
   pub columns : c ≡ passed n m
   pub total : all ≡ blockSizes n c
   pub first : dc ≡ natAbs (entry c 0 0)
 
--- it has the tile's sum
-pub shares : {n all dc : ℕ} {d m c : List (List ℤ)} → ByPasses (suc n) d m c all dc → (tileSum (suc n) (entry d) + dc ≡ all + dc / 4) × (dc ≤ all)
+-- it has the tile's sum: by two passes that turn, and with the rows added first
+pub shares : {n all dc : ℕ} {d m c : List (List ℤ)} → ByPasses (suc n) (passed (suc n)) d m c all dc → (tileSum (suc n) (entry d) + dc ≡ all + dc / 4) × (dc ≤ all)
 unfolding tileSum
 shares {n} {all} {dc} {d} {m} {c} t =
     let e : c ≡ passed (suc n) (passed (suc n) d) = t .columns ∙ ap (passed (suc n)) (t .rows) in
     rw (t .total, t .first, e, sizes-are (suc n) d, two-passes (suc n) d 0 0 (omega arith) (omega arith))
     (quarter n (λ a b. natAbs (coefficient (suc n) (entry d) a b)))
 
--- the same with the rows added first
-pub record ByRows (n : ℕ) (d m c : List (List ℤ)) (all dc : ℕ) : Type 0 where
-  pub rows : m ≡ rowsPassed n d
-  pub columns : c ≡ passed n m
-  pub total : all ≡ blockSizes n c
-  pub first : dc ≡ natAbs (entry c 0 0)
-
-pub shares-by-rows : {n all dc : ℕ} {d m c : List (List ℤ)} → ByRows (suc n) d m c all dc → (tileSum (suc n) (entry d) + dc ≡ all + dc / 4) × (dc ≤ all)
+pub shares-by-rows : {n all dc : ℕ} {d m c : List (List ℤ)} → ByPasses (suc n) (rowsPassed (suc n)) d m c all dc → (tileSum (suc n) (entry d) + dc ≡ all + dc / 4) × (dc ≤ all)
 unfolding tileSum
 shares-by-rows {n} {all} {dc} {d} {m} {c} t =
     let e : c ≡ passed (suc n) (rowsPassed (suc n) d) = t .columns ∙ ap (passed (suc n)) (t .rows) in

@@ -1,6 +1,7 @@
 // `evc_had_8x8`, after the Rust's function of that name. Document 01, "Distortion".
-// Differs from the Rust in: the differences are handed in. The rows are added and subtracted first, whole, so that the block is turned only once,
-// by the column pass. All coefficients' sizes are added, and the DC's taken out again: it has another share.
+// Differs from the Rust in: the differences are handed in. The row pass, which adds and subtracts whole rows, is the Rust's vertical step and comes
+// first, so that the block is turned only once, by the column pass. All coefficients' sizes are added, and the DC's taken out again: it has
+// another share.
 ghost use mathlib.Core.Path.{_≡_};
 ghost use mathlib.Core.List.{[], _∷_};
 ghost use Prim.Native.Nat.{_<_};
@@ -128,8 +129,8 @@ fn row_pass(block: [[i32; 8]; 8]) -> [[i32; 8]; 8]
     out
 }
 
-// The column pass takes on what the row pass made, and does the same with its columns: row b of the result is the sum of all columns, each with
-// its sign.
+// The column pass takes on what the row pass made, and does the same with its columns, which it turns: row b of the result is the sum of all
+// columns, each with its sign.
 fn column_pass(m: [[i32; 8]; 8]) -> [[i32; 8]; 8]
     requires { ⌜ BlockWithin 262144 m ⌝ }
     ensures { λ r. ⌜ Passed 8 2097152 m r ⌝ }

@@ -6,6 +6,7 @@ use lib.IntN.{natAbs}
 use mir.Syntax.{w32}
 use Rattle.integers.proofs.Bits.{back}
 use Rattle.evc.specs.Tiles.{tileNumber}
+use Rattle.satd_tiles.specs.Passes.{passed}
 use Rattle.satd_tiles.proofs.Tiles.{ByPasses, shares}
 use Rattle.satd_tiles.proofs.had_4x4.evc_had_4x4.Statement.{statement}
 use Rattle.satd_tiles.proofs.had_4x4.evc_had_4x4.Tie as tie
@@ -29,7 +30,7 @@ abs-i32-requires c κs = tt
 tile :
     (c : tie.After-abs-i32) →
     let m = c .before .before .before .before in
-    ByPasses 4 (m .before .before .args .diff) (m .before .row-pass .result) (m .column-pass .result) (c .before .before .sum .result) (c .abs-i32 .result)
+    ByPasses 4 (passed 4) (m .before .before .args .diff) (m .before .row-pass .result) (m .column-pass .result) (c .before .before .sum .result) (c .abs-i32 .result)
 tile c =
     let m = c .before .before .before .before in
     record {

@@ -8,7 +8,7 @@ use Rattle.integers.proofs.Bits.{back}
 use Rattle.evc.specs.Tiles.{tileNumber}
 use Rattle.satd_tiles.specs.Passes.{BlockWithin, rowsPassed}
 use Rattle.satd_tiles.proofs.Blocks.{entry-within}
-use Rattle.satd_tiles.proofs.Tiles.{ByRows, shares-by-rows}
+use Rattle.satd_tiles.proofs.Tiles.{ByPasses, shares-by-rows}
 use Rattle.satd_tiles.proofs.had_8x8.evc_had_8x8.Statement.{statement}
 use Rattle.satd_tiles.proofs.had_8x8.evc_had_8x8.Tie as tie
 
@@ -34,7 +34,7 @@ abs-i32-requires c κs = tt
 tile :
     (c : tie.After-abs-i32) →
     let m = c .before .before .before .before in
-    ByRows 8 (m .before .before .before .args .diff) (m .before .row-pass .result) (m .column-pass .result) (c .before .before .sum .result) (c .abs-i32 .result)
+    ByPasses 8 (rowsPassed 8) (m .before .before .before .args .diff) (m .before .row-pass .result) (m .column-pass .result) (c .before .before .sum .result) (c .abs-i32 .result)
 tile c =
     let m = c .before .before .before .before in
     record {

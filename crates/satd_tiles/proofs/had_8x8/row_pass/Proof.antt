@@ -18,7 +18,7 @@ use Rattle.satd_tiles.proofs.had_8x8.row_pass.Statement.{statement}
 use Rattle.satd_tiles.proofs.had_8x8.row_pass.Tie as tie
 
 abbrev Inv-loop : tie.InvT-loop
-Inv-loop out₀ m i₀ out i = Columns ℤ (pos 0) 8 (λ a i. line 8 (λ k. entry m k i) a) out i
+Inv-loop out₀ m i₀ out i = Columns ℤ (pos 0) 8 (λ b i. line 8 (λ k. entry m k i) b) out i
 
 abbrev μ-loop : tie.MeasureT-loop
 μ-loop out₀ m i₀ out i = 8 - i
