@@ -1,4 +1,4 @@
--- `calls::input::replay` is safe and ends: the turns that are left are the measure, and what is written keeps its length. Assumes nothing.
+-- `calls::input::replay` is safe and ends: the turns that are left are the measure, and the room for buffers keeps its length. Assumes nothing.
 use borrow.Author.Needs.{needs}
 use mathlib.Core.Path.{_≡_}
 use lib.ListN.{length}
@@ -6,7 +6,8 @@ use Rattle.calls.proofs.input.replay.Statement.{statement}
 use Rattle.calls.proofs.input.replay.Tie as tie
 
 abbrev Inv-loop : tie.InvT-loop
-Inv-loop o₀ at fd name tally₀ part₀ text₀ shorts₀ words₀ one₀ two₀ s₀ turns₀ o tally part text shorts words one two s turns = (16384 ≡ length shorts) × (16384 ≡ length words) × (16384 ≡ length one) × (16384 ≡ length two)
+Inv-loop o₀ at fd name tally₀ part₀ text₀ shorts₀ words₀ one₀ two₀ s₀ turns₀ o tally part text shorts words one two s turns =
+    (16384 ≡ length shorts) × (16384 ≡ length words) × (16384 ≡ length one) × (16384 ≡ length two)
 
 abbrev μ-loop : tie.MeasureT-loop
 μ-loop o₀ at fd name tally₀ part₀ text₀ shorts₀ words₀ one₀ two₀ s₀ turns₀ o tally part text shorts words one two s turns = turns
