@@ -2,9 +2,8 @@
 use borrow.Author.Needs.{sfits-of}
 use mathlib.Core.Path.{sym, _∙_, subst}
 use mathlib.Core.List.{[], _∷_}
-use Prim.Native.Nat.{ℕ, _+_, _*_, _-_, _≤_, _<_}
+use Prim.Native.Nat.{ℕ, _+_, _*_, _-_, _≤_}
 use native.Mathlib.Omega.{arith}
-use native.Mathlib.Nat.{mul-comm}
 use lib.ListN.{length, getD}
 use lib.IntN.{ℤ, pos, natAbs}
 use mir.Syntax.{w16, w64}
@@ -12,7 +11,8 @@ use mir.Val.{SFits}
 use Rattle.integers.proofs.Bound.{within-sfits, within-mono}
 use Rattle.integers.proofs.Expr.{var, loc, Known, arg, env, fit, reads}
 use Rattle.itx_halving.specs.Lines.{Gathered}
-use Rattle.itx_halving.proofs.Lines.{place, gathered-none, gathered-more}
+use Rattle.itx_halving.proofs.Lines.{gathered-none, gathered-more}
+use Rattle.itx_lines.proofs.gather.Places.{Inside, inside}
 use Rattle.itx_lines.proofs.gather.gather_i16.Statement.{statement}
 use Rattle.itx_lines.proofs.gather.gather_i16.Tie as tie
 
@@ -22,16 +22,11 @@ Inv-loop src x₀ n l j k₀ x k = (k ≤ n) × Gathered x src n k l j
 abbrev μ-loop : tie.MeasureT-loop
 μ-loop src x₀ n l j k₀ x k = n - k
 
-within : (c : tie.In-loop Inv-loop μ-loop) → c .before .loop .k * c .before .before .args .l + c .before .before .args .j < length (c .before .before .args .src .now)
-within c =
+-- the place read, and the one of the other order
+at : (c : tie.In-loop Inv-loop μ-loop) → let a = c .before .before .args in Inside (c .before .loop .k) (a .l) (a .j) (a .n) (length (a .src .now))
+at c =
     let a = c .before .before .args in
-    place (c .before .loop .k) (a .l) (a .j) (a .n) _ (c .loop-test .taken) (c .before .before .pre .1 .0) (c .before .before .pre .1 .1)
-
--- so is the place with line and input exchanged: a wrong order is refused for what it reads, not for where
-across : (c : tie.In-loop Inv-loop μ-loop) → c .before .before .args .j * c .before .before .args .n + c .before .loop .k < length (c .before .before .args .src .now)
-across c =
-    let a = c .before .before .args in
-    place (a .j) (a .n) (c .before .loop .k) (a .l) _ (c .before .before .pre .1 .0) (c .loop-test .taken) (omega (arith, c .before .before .pre .1 .1, mul-comm (a .l) (a .n)))
+    inside (c .before .loop .k) (a .l) (a .j) (a .n) _ (c .loop-test .taken) (c .before .before .pre .1 .0) (c .before .before .pre .1 .1)
 
 module _ (c : tie.After-x Inv-loop μ-loop) where
   abbrev val : ℤ
@@ -46,32 +41,8 @@ module _ (c : tie.After-x Inv-loop μ-loop) where
 loop-holds : tie.Need-loop-holds Inv-loop μ-loop
 loop-holds c = (omega arith, gathered-none (c .pre .0))
 
-mul-x : tie.Need-mul-x Inv-loop μ-loop
-mul-x c = omega (arith, within c, across c)
-
-add-x : tie.Need-add-x Inv-loop μ-loop
-add-x c = omega (arith, within c, across c)
-
-mul-x-2 : tie.Need-mul-x-2 Inv-loop μ-loop
-mul-x-2 c = omega (arith, within c, across c)
-
-shared-slice-copy-out-x : tie.Need-shared-slice-copy-out-x Inv-loop μ-loop
-shared-slice-copy-out-x c = omega (arith, within c, across c)
-
 cast-x : tie.Need-cast-x Inv-loop μ-loop
 cast-x c = fit (known c) w64 (var 0) tt
-
-mul-t14 : tie.Need-mul-t14 Inv-loop μ-loop
-mul-t14 c = omega (arith, c .before .before .loop .inv .1 .long)
-
-slice-set-from-x : tie.Need-slice-set-from-x Inv-loop μ-loop
-slice-set-from-x c = omega (arith, c .before .before .loop .inv .1 .long)
-
-add-k : tie.Need-add-k Inv-loop μ-loop
-add-k c = omega arith
-
-loop-less : tie.Need-loop-less Inv-loop μ-loop
-loop-less c = omega arith
 
 loop-again : tie.Need-loop-again Inv-loop μ-loop
 loop-again c = (
@@ -95,15 +66,15 @@ gather-i16-spec =
     Inv-loop
     μ-loop
     loop-holds
-    mul-x
-    add-x
-    mul-x-2
-    shared-slice-copy-out-x
+    (λ c. omega (arith, at c .stands, at c .turned))
+    (λ c. omega (arith, at c .stands, at c .turned))
+    (λ c. omega (arith, at c .stands, at c .turned))
+    (λ c. omega (arith, at c .stands, at c .turned))
     cast-x
-    mul-t14
-    slice-set-from-x
-    add-k
-    loop-less
+    (λ c. omega (arith, c .before .before .loop .inv .1 .long))
+    (λ c. omega (arith, c .before .before .loop .inv .1 .long))
+    (λ c. omega arith)
+    (λ c. omega arith)
     loop-again
     same-length
     returns)

@@ -1,0 +1,2 @@
+-- Laws of the lines that are gathered.
+mod Places
