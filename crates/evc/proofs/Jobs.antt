@@ -12,7 +12,8 @@ use Rattle.integers.proofs.Written.{tab-length}
 use Rattle.order.specs.Jobs.{Lawful}
 use Rattle.order.proofs.Rows.{rows-distinct, rows-below, reach-packed}
 use Rattle.evc.specs.declared.Job.{Job}
-use Rattle.evc.specs.Jobs.{width, height, pitch, area, areaEnd, testsAs, jobTests, jobNumber, block, blockJobs}
+use Rattle.evc.specs.Reports.{tests}
+use Rattle.evc.specs.Jobs.{width, height, pitch, area, areaEnd, entriesAs, jobTests, jobNumber, block, blockJobs}
 use Rattle.evc.proofs.Tests.{Unbroken, unbroken, first-none, outside-no, inside-no}
 
 pub length-block : (j : Job) (l : List ℤ) → length (block j l) ≡ length l
@@ -38,7 +39,7 @@ area-end j = reach-packed (j .start) (width j) (height j) (pow-pos (j .«log2_h�
 pub accepted-as : (lo hi logw logh n : ℕ) (j : Job)
     → (lo ≤ logw → logw ≤ hi → (1 ≤ j .«log2_w») × (j .«log2_w» ≤ 6))
     → (lo ≤ logh → logh ≤ hi → (1 ≤ j .«log2_h») × (j .«log2_h» ≤ 6))
-    → Unbroken (testsAs lo hi logw logh n j) → Accepted n j
+    → Unbroken (tests (entriesAs lo hi logw logh n j)) → Accepted n j
 accepted-as lo hi logw logh n j fw fh u =
     let a = outside-no lo hi logw (u .0) in
     let b = outside-no lo hi logh (u .1 .0) in

@@ -1,4 +1,4 @@
--- Theorems about document 01's definitions: its numbers, the readings of the answers, the order of the tests, jobs in any order.
+-- Theorems about the definitions: document 01's numbers, the readings of the answers, the order of the tests, reports, jobs in any order.
 pub mod Numbers
 pub mod Readings
 pub mod Tests
@@ -7,5 +7,6 @@ pub mod Jobs
 pub mod AnyOrder
 pub mod ByTheatre
 pub mod SubBlocks
+pub mod Reports
 pub mod Marks
 pub mod Matches

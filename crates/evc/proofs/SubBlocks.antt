@@ -18,46 +18,48 @@ use Rattle.evc.specs.declared.SubBlock.{SubBlock}
 use Rattle.evc.specs.declared.Component.{Component}
 use Rattle.evc.specs.declared.Component.the-variants.{Y, U, «V»}
 use Rattle.evc.specs.Answers.{number, SubReply, accepted, refusedAt}
-use Rattle.evc.specs.Tests.{Test, first}
+use Rattle.evc.specs.Tests.{first}
+use Rattle.evc.specs.Reports.{Entry, tests, Named, named, firstNamed}
 use Rattle.evc.specs.Jobs.{area, jobNumber, blockJobs}
-use Rattle.evc.specs.SubBlocks.{Named, named, firstNamed, orElse, luma, chroma, lumaTests, chromaTests, isSome, overlap, given, flagged, subReply, subExit}
+use Rattle.evc.specs.SubBlocks.{orElse, luma, chroma, lumaEntries, chromaEntries, lumaTests, chromaTests, isSome, overlap, given, flagged, subReply, subExit}
 use Rattle.evc.proofs.Tests.{number-some, unbroken}
 use Rattle.evc.proofs.Jobs.{accept, accepted-as, lawful}
 
 -- ---- a sub-block's answer goes component by component: the first of Y, U, V that is flagged and has a broken test, with the lowest
 -- number of its own; where none has, the first flagged pair of YU, YV, UV that shares a sample, naming the later
-named-first : (on : Bool) (c : Component) (ts : List Test) (rest : List Named)
-    → firstNamed (given on (named c ts) ++ rest) ≡ orElse on c (first ts) (firstNamed rest)
-named-first false c ts rest = refl
+named-first : (on : Bool) (c : Component) (es : List Entry) (rest : List Named)
+    → firstNamed (given on (named c es) ++ rest) ≡ orElse on c (first (tests es)) (firstNamed rest)
+named-first false c es rest = refl
 named-first true c [] rest = refl
-named-first true c (t ∷ ts) rest = go (t .broken) (named-first true c ts rest)
+named-first true c (e ∷ es) rest = go (e .test .broken) (named-first true c es rest)
   where
     some : (n : ℕ) → 1 ≤ n → refusedAt c n ≡ orElse true c n (firstNamed rest)
     some zero h = absurd (omega arith)
     some (suc n) h = refl
 
-    go : (b : Bool) → firstNamed (named c ts ++ rest) ≡ orElse true c (first ts) (firstNamed rest)
-        → cond b (refusedAt c (number (t .refusal))) (firstNamed (named c ts ++ rest)) ≡ orElse true c (cond b (number (t .refusal)) (first ts)) (firstNamed rest)
-    go true ih = some (number (t .refusal)) (number-some (t .refusal))
+    go : (b : Bool) → firstNamed (named c es ++ rest) ≡ orElse true c (first (tests es)) (firstNamed rest)
+        → cond b (refusedAt c (number (e .test .refusal))) (firstNamed (named c es ++ rest))
+        ≡ orElse true c (cond b (number (e .test .refusal)) (first (tests es))) (firstNamed rest)
+    go true ih = some (number (e .test .refusal)) (number-some (e .test .refusal))
     go false ih = ih
 
-named-last : (on : Bool) (c : Component) (ts : List Test) → firstNamed (given on (named c ts)) ≡ orElse on c (first ts) accepted
-named-last on c ts = ap firstNamed (sym (append-nil (given on (named c ts)))) ∙ named-first on c ts []
+pub named-last : (on : Bool) (c : Component) (es : List Entry) → firstNamed (given on (named c es)) ≡ orElse on c (first (tests es)) accepted
+named-last on c es = ap firstNamed (sym (append-nil (given on (named c es)))) ∙ named-first on c es []
 
 pub sub-by-component : (n : ℕ) (s : SubBlock)
     → subReply n s
     ≡ orElse (s .y .flag) Y (first (lumaTests n s (s .y)))
     (orElse (s .u .flag) U (first (chromaTests n s (s .u)))
     (orElse (s .v .flag) «V» (first (chromaTests n s (s .v)))
-    (orElse (s .y .flag && s .u .flag) U (first (overlap (luma s (s .y)) (chroma s (s .u)) ∷ []))
-    (orElse (s .y .flag && s .v .flag) «V» (first (overlap (luma s (s .y)) (chroma s (s .v)) ∷ []))
-    (orElse (s .u .flag && s .v .flag) «V» (first (overlap (chroma s (s .u)) (chroma s (s .v)) ∷ [])) accepted)))))
+    (orElse (s .y .flag && s .u .flag) U (first (overlap (luma s (s .y)) (chroma s (s .u)) .test ∷ []))
+    (orElse (s .y .flag && s .v .flag) «V» (first (overlap (luma s (s .y)) (chroma s (s .v)) .test ∷ []))
+    (orElse (s .u .flag && s .v .flag) «V» (first (overlap (chroma s (s .u)) (chroma s (s .v)) .test ∷ [])) accepted)))))
 unfolding subReply
 sub-by-component n s =
     rw (
-      named-first (s .y .flag) Y (lumaTests n s (s .y)),
-      named-first (s .u .flag) U (chromaTests n s (s .u)),
-      named-first (s .v .flag) «V» (chromaTests n s (s .v)),
+      named-first (s .y .flag) Y (lumaEntries n s (s .y)),
+      named-first (s .u .flag) U (chromaEntries n s (s .u)),
+      named-first (s .v .flag) «V» (chromaEntries n s (s .v)),
       named-first (s .y .flag && s .u .flag) U (overlap (luma s (s .y)) (chroma s (s .u)) ∷ []),
       named-first (s .y .flag && s .v .flag) «V» (overlap (luma s (s .y)) (chroma s (s .v)) ∷ []),
       named-last (s .u .flag && s .v .flag) «V» (overlap (chroma s (s .u)) (chroma s (s .v)) ∷ []),
@@ -75,9 +77,9 @@ pub record AllPassed (n : ℕ) (s : SubBlock) : Type 0 where
   pub y : s .y .flag ≡ true → first (lumaTests n s (s .y)) ≡ 0
   pub u : s .u .flag ≡ true → first (chromaTests n s (s .u)) ≡ 0
   pub v : s .v .flag ≡ true → first (chromaTests n s (s .v)) ≡ 0
-  pub yu : s .y .flag && s .u .flag ≡ true → first (overlap (luma s (s .y)) (chroma s (s .u)) ∷ []) ≡ 0
-  pub yv : s .y .flag && s .v .flag ≡ true → first (overlap (luma s (s .y)) (chroma s (s .v)) ∷ []) ≡ 0
-  pub uv : s .u .flag && s .v .flag ≡ true → first (overlap (chroma s (s .u)) (chroma s (s .v)) ∷ []) ≡ 0
+  pub yu : s .y .flag && s .u .flag ≡ true → first (overlap (luma s (s .y)) (chroma s (s .u)) .test ∷ []) ≡ 0
+  pub yv : s .y .flag && s .v .flag ≡ true → first (overlap (luma s (s .y)) (chroma s (s .v)) .test ∷ []) ≡ 0
+  pub uv : s .u .flag && s .v .flag ≡ true → first (overlap (chroma s (s .u)) (chroma s (s .v)) .test ∷ []) ≡ 0
 
 pub all-passed : (n : ℕ) (s : SubBlock) → subReply n s ≡ accepted → AllPassed n s
 all-passed n s e =
@@ -99,8 +101,8 @@ chroma-accepted n s c e =
     accept n (chroma s c)
     (accepted-as 2 7 (s .«log2_w») (s .«log2_h») n (chroma s c) (λ a b. (omega arith, omega arith)) (λ a b. (omega arith, omega arith)) (unbroken (chromaTests n s c) e))
 
-none-shared : (j k : Job) → first (overlap j k ∷ []) ≡ 0 → shared (area j) (area k) ≡ []
-none-shared j k e = go (shared (area j) (area k)) (unbroken (overlap j k ∷ []) e .0)
+none-shared : (j k : Job) → first (overlap j k .test ∷ []) ≡ 0 → shared (area j) (area k) ≡ []
+none-shared j k e = go (shared (area j) (area k)) (unbroken (overlap j k .test ∷ []) e .0)
   where
     go : (l : List ℕ) → isSome l ≡ false → l ≡ []
     go [] h = refl
@@ -125,7 +127,7 @@ given-alone n on j =
     subst (Separate blockJobs n) (append-nil (given on (j ∷ []))) (given-separate n on j [] (λ o k m. absurd (List·Memᴰ·not-nil m)) Pairwise·nil)
 
 -- a member that is i, one of a pair that passed, is apart from the other
-apart-as : (n : ℕ) (on : Bool) (j i k : Job) → (on ≡ true) × (k ≡ i) → first (overlap j i ∷ []) ≡ 0 → Apart (owns blockJobs n) j k
+apart-as : (n : ℕ) (on : Bool) (j i k : Job) → (on ≡ true) × (k ≡ i) → first (overlap j i .test ∷ []) ≡ 0 → Apart (owns blockJobs n) j k
 apart-as n on j i k q z = subst (λ (x : Job). Apart (owns blockJobs n) j x) (sym (q .1)) (apart-of-shared blockJobs n j i (none-shared j i z))
 
 module _ (n : ℕ) (s : SubBlock) (e : subReply n s ≡ accepted) where

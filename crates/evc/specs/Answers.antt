@@ -13,6 +13,8 @@ use Rattle.evc.specs.declared.Answer.{Answer}
 use Rattle.evc.specs.declared.Answer.the-variants as answer
 use Rattle.evc.specs.declared.SubAnswer.{SubAnswer}
 use Rattle.evc.specs.declared.SubAnswer.the-variants as sub
+use Rattle.evc.specs.declared.Report.{Report}
+use Rattle.evc.specs.declared.Report.the-variants as report
 use Rattle.evc.specs.declared.Scale.{Scale}
 use Rattle.evc.specs.declared.Scale.the-variants as scaled
 use Rattle.evc.specs.declared.Distortion.{Distortion}
@@ -79,3 +81,13 @@ subReading (sub.Refused c r) = refusedAt c (number r)
 abbrev pub subVerdictReading : SubVerdict → SubReply
 subVerdictReading subVerdict.Passed = accepted
 subVerdictReading (subVerdict.Broken c r) = refusedAt c (number r)
+
+-- a report stands beside such an answer, which it holds
+abbrev pub reportReply : Report → SubReply
+reportReply report.None = accepted
+reportReply (report.Broken c r given limit) = refusedAt c (number r)
+
+-- and beside the number of a job's
+abbrev pub reportNumber : Report → ℕ
+reportNumber report.None = 0
+reportNumber (report.Broken c r given limit) = number r

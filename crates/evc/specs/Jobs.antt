@@ -1,5 +1,5 @@
 -- The block job: dequantize an area of the buffer, stage one, stage two, back into the same area. Document 01, "Numbers of the domain"
--- and "The two stages". Assumes nothing.
+-- and "The two stages"; document 02, One. Assumes nothing.
 use Prim.Native.Nat.{ℕ, _+_, _*_, _^_}
 use mathlib.Core.List.{List, [], _∷_, map}
 use lib.Dec.{ltb}
@@ -7,8 +7,11 @@ use lib.IntN.{ℤ, pos}
 use Rattle.order.specs.Positions.{rows, reach}
 use Rattle.order.specs.Jobs.{Kind, after}
 use Rattle.evc.specs.declared.Job.{Job}
+use Rattle.evc.specs.declared.Component.the-variants.{Y}
 use Rattle.evc.specs.declared.Refusal.the-variants.{Size, Qp, Shift, Area}
-use Rattle.evc.specs.Tests.{Test, _when_, first, outside}
+use Rattle.evc.specs.declared.Report.{Report}
+use Rattle.evc.specs.Tests.{Test, _when_, first}
+use Rattle.evc.specs.Reports.{Entry, tests, atMost, within, named, report}
 use Rattle.evc.specs.Table.{tm}
 use Rattle.evc.specs.Dequantizer.{scale, dequantized}
 use Rattle.evc.specs.Stages.{stageOne, stageTwo}
@@ -35,22 +38,33 @@ area j = rows (j .start) (width j) (pitch j) (height j)
 abbrev pub areaEnd : Job → ℕ
 areaEnd j = reach (j .start) (width j) (pitch j) (height j)
 
+-- the area must end inside a buffer of n samples; its numbers are the start and n
+abbrev pub inside : ℕ → Job → Entry
+inside n j = record { test = Area when ltb n (areaEnd j); given = j .start; limit = n }
+
 -- the tests on a buffer of n samples, of a job whose logs were handed in as logw and logh and must lie in lo..hi
-abbrev pub testsAs : ℕ → ℕ → ℕ → ℕ → ℕ → Job → List Test
-testsAs lo hi logw logh n j =
-    (Size when outside lo hi logw)
-    ∷ (Size when outside lo hi logh)
-    ∷ (Qp when ltb 63 (j .qp))
-    ∷ (Shift when ltb 31 (j .«dq_shift»))
-    ∷ (Shift when ltb 31 (j .«it_shift»))
-    ∷ (Area when ltb n (areaEnd j))
+abbrev pub entriesAs : ℕ → ℕ → ℕ → ℕ → ℕ → Job → List Entry
+entriesAs lo hi logw logh n j =
+    within Size lo hi logw
+    ∷ within Size lo hi logh
+    ∷ atMost Qp 63 (j .qp)
+    ∷ atMost Shift 31 (j .«dq_shift»)
+    ∷ atMost Shift 31 (j .«it_shift»)
+    ∷ inside n j
     ∷ []
 
+abbrev pub jobEntries : ℕ → Job → List Entry
+jobEntries n j = entriesAs 1 6 (j .«log2_w») (j .«log2_h») n j
+
 abbrev pub jobTests : ℕ → Job → List Test
-jobTests n j = testsAs 1 6 (j .«log2_w») (j .«log2_h») n j
+jobTests n j = tests (jobEntries n j)
 
 unfoldable pub jobNumber : ℕ → Job → ℕ
 jobNumber n j = first (jobTests n j)
+
+-- a job's component is Y
+unfoldable pub jobReport : ℕ → Job → Report
+jobReport n j = report (named Y (jobEntries n j))
 
 -- what the job makes of its samples: stage one has the size height and width lines, stage two the size width and height lines
 unfoldable pub block : Job → List ℤ → List ℤ

@@ -6,8 +6,10 @@ pub mod Tests
 pub mod Table
 pub mod Dequantizer
 pub mod Stages
+pub mod Reports
 pub mod Jobs
 pub mod SubBlocks
+pub mod Breaks
 pub mod Planes
 pub mod Differences
 pub mod Tiles

@@ -97,6 +97,12 @@ pub enum SubAnswer {
     Refused(Component, Refusal),
 }
 
+// What a job or a sub-block that is refused tells of it: the component, why, the number that was handed in and the limit that it broke.
+pub enum Report {
+    None,
+    Broken(Component, Refusal, usize, usize),
+}
+
 // The scale of a qp.
 pub enum Scale {
     Value(i32),
