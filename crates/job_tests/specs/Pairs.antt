@@ -2,13 +2,14 @@
 use Prim.Native.Nat.{_≤_}
 use mathlib.Core.Path.{_≡_}
 use mathlib.Core.Bool.{true, _&&_}
-use mathlib.Core.List.{[], _∷_}
+use mathlib.Core.List.{List, [], _∷_, _++_}
 use Rattle.evc.specs.declared.Job.{Job}
 use Rattle.evc.specs.declared.SubBlock.{SubBlock}
 use Rattle.evc.specs.declared.Component.the-variants.{U, «V»}
 use Rattle.evc.specs.Answers.{SubReply, accepted}
 use Rattle.evc.specs.Tests.{first}
-use Rattle.evc.specs.SubBlocks.{overlap, orElse}
+use Rattle.evc.specs.Reports.{Named, named}
+use Rattle.evc.specs.SubBlocks.{overlap, given, orElse}
 
 -- the job's sides are at most 64
 pub record Sides (j : Job) : Type 0 where
@@ -24,6 +25,13 @@ pub record FlaggedSides (s : SubBlock) (y u v : Job) : Type 0 where
 -- what the pairs YU, YV and UV say of a call with these jobs
 abbrev pub pairReply : SubBlock → Job → Job → Job → SubReply
 pairReply s y u v =
-    orElse (s .y .flag && s .u .flag) U (first (overlap y u ∷ []))
-    (orElse (s .y .flag && s .v .flag) «V» (first (overlap y v ∷ []))
-    (orElse (s .u .flag && s .v .flag) «V» (first (overlap u v ∷ [])) accepted))
+    orElse (s .y .flag && s .u .flag) U (first (overlap y u .test ∷ []))
+    (orElse (s .y .flag && s .v .flag) «V» (first (overlap y v .test ∷ []))
+    (orElse (s .u .flag && s .v .flag) «V» (first (overlap u v .test ∷ [])) accepted))
+
+-- their tests, for the report
+abbrev pub pairTests : SubBlock → Job → Job → Job → List Named
+pairTests s y u v =
+    given (s .y .flag && s .u .flag) (named U (overlap y u ∷ []))
+    ++ (given (s .y .flag && s .v .flag) (named «V» (overlap y v ∷ []))
+    ++ given (s .u .flag && s .v .flag) (named «V» (overlap u v ∷ [])))

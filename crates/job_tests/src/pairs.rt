@@ -2,16 +2,18 @@
 // Differs from the Rust in: its offsets are fixed and never overlap, so that it has no such test.
 ghost use mathlib.Core.Path.{_≡_};
 ghost use mathlib.Core.Bool.{true, _&&_};
-ghost use Prim.Native.Nat.{_≤_};
+ghost use Prim.Native.Nat.{_≤_, max};
 ghost use Rattle.order.specs.Positions.{row, shared};
 ghost use Rattle.evc.specs.Answers.{subVerdictReading};
 ghost use Rattle.evc.specs.Tests.{samplesOf};
+ghost use Rattle.evc.specs.Reports.{report};
 ghost use Rattle.evc.specs.Jobs.{area};
 ghost use Rattle.evc.specs.SubBlocks.{isSome};
-ghost use Rattle.job_tests.specs.Pairs.{Sides, FlaggedSides, pairReply};
+ghost use Rattle.job_tests.specs.Pairs.{Sides, FlaggedSides, pairReply, pairTests};
 use evc::Component;
 use evc::Job;
 use evc::Refusal;
+use evc::Report;
 use evc::SubBlock;
 use evc::SubVerdict;
 
@@ -58,4 +60,31 @@ pub(crate) fn pairs(call: SubBlock, y: Job, u: Job, v: Job) -> SubVerdict
         return SubVerdict::Broken(Component::V, Refusal::Overlap);
     }
     SubVerdict::Passed
+}
+
+// The later of two starts: of two runs that meet, the first sample in common.
+fn later(a: usize, b: usize) -> usize
+    ensures { λ r. ⌜ r ≡ max a b ⌝ }
+{
+    if a < b { b } else { a }
+}
+
+// What the pairs report: the start of the later component, and the lowest position that the two share.
+pub(crate) fn pairs_report(call: SubBlock, y: Job, u: Job, v: Job) -> Report
+    requires { ⌜ FlaggedSides call y u v ⌝ }
+    ensures { λ r. ⌜ r ≡ report (pairTests call y u v) ⌝ }
+{
+    if meet(call.y.flag, y, call.u.flag, u) {
+        let at = later(y.start, u.start);
+        return Report::Broken(Component::U, Refusal::Overlap, u.start, at);
+    }
+    if meet(call.y.flag, y, call.v.flag, v) {
+        let at = later(y.start, v.start);
+        return Report::Broken(Component::V, Refusal::Overlap, v.start, at);
+    }
+    if meet(call.u.flag, u, call.v.flag, v) {
+        let at = later(u.start, v.start);
+        return Report::Broken(Component::V, Refusal::Overlap, v.start, at);
+    }
+    Report::None
 }

@@ -26,8 +26,8 @@ module _ (c : tie.Else1) where
   abbrev later : SubReply
   later =
       let s = start .args .call in
-      orElse (s .y .flag && s .v .flag) «V» (first (overlap (start .args .y) (start .args .v) ∷ []))
-      (orElse (s .u .flag && s .v .flag) «V» (first (overlap (start .args .u) (start .args .v) ∷ [])) accepted)
+      orElse (s .y .flag && s .v .flag) «V» (first (overlap (start .args .y) (start .args .v) .test ∷ []))
+      (orElse (s .u .flag && s .v .flag) «V» (first (overlap (start .args .u) (start .args .v) .test ∷ [])) accepted)
 
   yu-apart : later ≡ pairReply (start .args .call) (start .args .y) (start .args .u) (start .args .v)
   yu-apart =
@@ -48,7 +48,7 @@ module _ (c : tie.Else2) where
   abbrev first-left : tie.Else1
   first-left = c .before .before
 
-  yv-apart : orElse (start first-left .args .call .u .flag && start first-left .args .call .v .flag) «V» (first (overlap (start first-left .args .u) (start first-left .args .v) ∷ [])) accepted
+  yv-apart : orElse (start first-left .args .call .u .flag && start first-left .args .call .v .flag) «V» (first (overlap (start first-left .args .u) (start first-left .args .v) .test ∷ [])) accepted
       ≡ pairReply (start first-left .args .call) (start first-left .args .y) (start first-left .args .u) (start first-left .args .v)
   yv-apart =
       let a = start first-left .args in

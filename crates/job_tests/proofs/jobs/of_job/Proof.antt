@@ -1,12 +1,12 @@
--- `job_tests::job::of_job` meets its contract: each return by the tests that led there. Assumes nothing.
+-- `job_tests::jobs::of_job` meets its contract: each return by the tests that led there. Assumes nothing.
 use mathlib.Core.Path.{_≡_}
 use mathlib.Core.Bool.{false, _||_}
 use Rattle.integers.proofs.Bools.{or-neither}
 use Rattle.evc.specs.Tests.{outside}
 use Rattle.evc.proofs.Tests.{outside-no}
-use Rattle.job_tests.proofs.job.Laws.{job-size, job-qp, job-shift, job-area, job-none}
-use Rattle.job_tests.proofs.job.of_job.Statement.{statement}
-use Rattle.job_tests.proofs.job.of_job.Tie as tie
+use Rattle.job_tests.proofs.jobs.Laws.{job-size, job-qp, job-shift, job-area, job-none}
+use Rattle.job_tests.proofs.jobs.of_job.Statement.{statement}
+use Rattle.job_tests.proofs.jobs.of_job.Tie as tie
 
 returns : tie.Need-returns
 returns c = job-size _ (c .before .before .before .before .before .args .job) (c .if1 .taken)

@@ -1,7 +1,7 @@
--- `job_tests::sub_block::component` meets its contract. Assumes nothing.
+-- `job_tests::sub_blocks::component` meets its contract. Assumes nothing.
 use borrow.Author.Needs.{needs}
-use Rattle.job_tests.proofs.sub_block.component.Statement.{statement}
-use Rattle.job_tests.proofs.sub_block.component.Tie as tie
+use Rattle.job_tests.proofs.sub_blocks.component.Statement.{statement}
+use Rattle.job_tests.proofs.sub_blocks.component.Tie as tie
 
 returns : tie.Need-returns
 returns c = rw (c .before .if1 .taken) (c .of-job .ensures)

@@ -1,4 +1,4 @@
--- `job_tests::job::past_end` meets its contract. Assumes nothing.
+-- `job_tests::jobs::past_end` meets its contract. Assumes nothing.
 use native.Mathlib.Omega.{arith}
 use Prim.Native.Nat.{_+_, _*_, _^_, _%_}
 use mathlib.Core.Path.{_≡_}
@@ -7,8 +7,8 @@ use Rattle.integers.proofs.Bits.{one-shl}
 use Rattle.evc.specs.Tests.{samplesOf}
 use Rattle.job_tests.proofs.Areas.{past-short, past-left}
 use borrow.Author.Needs.{needs}
-use Rattle.job_tests.proofs.job.past_end.Statement.{statement}
-use Rattle.job_tests.proofs.job.past_end.Tie as tie
+use Rattle.job_tests.proofs.jobs.past_end.Statement.{statement}
+use Rattle.job_tests.proofs.jobs.past_end.Tie as tie
 
 sized : (c : tie.Start) → (1 * 2 ^ (c .args .job .«log2_w» + c .args .job .«log2_h»)) % 2 ^ 64 ≡ samplesOf (c .args .job .«log2_w») (c .args .job .«log2_h»)
 sized c = one-shl w64 (c .args .job .«log2_w» + c .args .job .«log2_h») (omega (arith, c .pre .0, c .pre .1))

@@ -10,7 +10,7 @@ use evc::Refusal;
 use evc::Verdict;
 
 // The area ends past a buffer of `len` samples. No sum is formed that may wrap, so that a start near the largest usize is no exception.
-fn past_end(len: usize, job: Job) -> bool
+pub(crate) fn past_end(len: usize, job: Job) -> bool
     requires { ⌜ job .«log2_w» ≤ 6 ⌝ }
     requires { ⌜ job .«log2_h» ≤ 6 ⌝ }
     ensures { λ r. ⌜ r ≡ ltb len (areaEnd job) ⌝ }

@@ -1,4 +1,4 @@
--- `job_tests::sub_block::of_sub_block` meets its contract: each return by the components that passed before it. Assumes nothing.
+-- `job_tests::sub_blocks::of_sub_block` meets its contract: each return by the components that passed before it. Assumes nothing.
 use Prim.Native.Nat.{ℕ}
 use mathlib.Core.Path.{_≡_, sym, ap, _∙_}
 use mathlib.Core.Bool.{cond}
@@ -9,10 +9,10 @@ use Rattle.evc.specs.Jobs.{jobNumber}
 use Rattle.evc.specs.SubBlocks.{subReply, orElse}
 use Rattle.evc.proofs.Matches.{is-passed}
 use Rattle.job_tests.specs.Pairs.{pairReply}
-use Rattle.job_tests.proofs.sub_block.SubTests.{component-here, component-rest, sides, sub-as}
+use Rattle.job_tests.proofs.sub_blocks.SubTests.{component-here, component-rest, sides, sub-as}
 use borrow.Author.Needs.{needs}
-use Rattle.job_tests.proofs.sub_block.of_sub_block.Statement.{statement}
-use Rattle.job_tests.proofs.sub_block.of_sub_block.Tie as tie
+use Rattle.job_tests.proofs.sub_blocks.of_sub_block.Statement.{statement}
+use Rattle.job_tests.proofs.sub_blocks.of_sub_block.Tie as tie
 
 -- ---- the call by its components, as the code has their jobs
 module _ (c : tie.After-chroma-job2) where

@@ -7,7 +7,7 @@ ghost use Rattle.evc.specs.Jobs.{jobNumber};
 ghost use Rattle.evc.specs.SubBlocks.{subReply};
 use crate::components::chroma_job;
 use crate::components::luma_job;
-use crate::job::of_job;
+use crate::jobs::of_job;
 use crate::pairs::pairs;
 use evc::Component;
 use evc::Job;
