@@ -1,4 +1,5 @@
-// `evc_sub_block_itdq2`, after the Rust's function of that name. Document 01, "Refusal numbers" and "Numbers of the domain".
+// `evc_sub_block_itdq2`, after the Rust's function of that name, and in `reported` the calls with a report. Document 01, "Refusal numbers" and "Numbers
+// of the domain".
 // Differs from the Rust in: each component brings its own start; all tests of all flagged components are made first, and a refused call has
 // written nothing; a flagged component is a block job, not a call on the buffer's tail; offset and shifts are given, and shared.
 ghost use mathlib.Core.Path.{_≡_};
@@ -16,8 +17,13 @@ use evc::SubVerdict;
 use job_tests::chroma_job;
 use job_tests::luma_job;
 
+mod reported;
+
+pub use reported::evc_itdq_job_reported;
+pub use reported::evc_sub_block_itdq2_reported;
+
 // A component's job, where it is flagged. Its tests have passed, so that they are not made again: the steps are those of `evc_itdq_job`.
-fn component(coef: &mut [i16], flag: bool, job: Job)
+pub(crate) fn component(coef: &mut [i16], flag: bool, job: Job)
     requires { ⌜ (flag ≡ true → jobNumber (length (now coef)) job ≡ 0) ⌝ }
     ensures { λ _. ⌜ now (coef .exit) ≡ jobs blockJobs (given flag (job ∷ [])) (now (coef .entry)) ⌝ }
 {
