@@ -10,7 +10,7 @@ use evc::Refusal;
 use evc::SquaredDistortion;
 use evc::SubAnswer;
 
-fn refusal_number(r: Refusal) -> u8
+pub(crate) fn refusal_number(r: Refusal) -> u8
     ensures { λ n. ⌜ n ≡ number r ⌝ }
 {
     match r {
@@ -24,7 +24,7 @@ fn refusal_number(r: Refusal) -> u8
     }
 }
 
-fn component_number(c: Component) -> u8
+pub(crate) fn component_number(c: Component) -> u8
     ensures { λ n. ⌜ n ≡ componentNumber c ⌝ }
 {
     match c {
