@@ -7,27 +7,29 @@ use crate::out::text;
 use crate::out::words;
 use crate::token::byte_at;
 
-pub(crate) type Table = [u8; 481];
+pub(crate) type Table = [u8; 681];
 
 pub(crate) const TABLE: Table = *b"
-  scale      b                a
-  dquant     nnwwbH           b
-  itxb0      nnHW             c
-  itxb1      nnbWH            d
-  job        nnnbwbbH         e
-  sub_block  nnwbbfffnnnbbbH  f
-  diff       nnnnnnnbSTH      g
-  satd       nnnnnnnbST       h
-  ssd_16b    nnnnnnnbST       i
-  ssd_16i    nnnnnnhhnnbST    j
-  sad_16b    nnnnnnnnhhnnbST  k
-  sad_bi_16b nnnhhnnbHS       l
-  sad_16i    nnnnnnnbST       m
-  sad_bi_16i nnbHS            n
-  help                        ?
+  scale              b                a
+  dquant             nnwwbH           b
+  itxb0              nnHW             c
+  itxb1              nnbWH            d
+  job                nnnbwbbH         e
+  job_reported       nnnbwbbH         o
+  sub_block          nnwbbfffnnnbbbH  f
+  sub_block_reported nnwbbfffnnnbbbH  p
+  diff               nnnnnnnbSTH      g
+  satd               nnnnnnnbST       h
+  ssd_16b            nnnnnnnbST       i
+  ssd_16i            nnnnnnhhnnbST    j
+  sad_16b            nnnnnnnnhhnnbST  k
+  sad_bi_16b         nnnhhnnbHS       l
+  sad_16i            nnnnnnnbST       m
+  sad_bi_16i         nnbHS            n
+  help                                ?
 ";
 
-type Usage = [u8; 1328];
+type Usage = [u8; 1611];
 
 const USAGE: Usage =
     *b"One call to a line, from standard input or from the files that the arguments name:
@@ -36,7 +38,9 @@ const USAGE: Usage =
   itxb0 LOG2_SIZE LOG2_LINE SRC DST
   itxb1 LOG2_SIZE LOG2_LINE SHIFT SRC DST
   job START LOG2_W LOG2_H QP OFFSET DQ_SHIFT IT_SHIFT COEF
+  job_reported START LOG2_W LOG2_H QP OFFSET DQ_SHIFT IT_SHIFT COEF
   sub_block LOG2_W LOG2_H OFFSET DQ_SHIFT IT_SHIFT FLAG_Y FLAG_U FLAG_V START_Y START_U START_V QP_Y QP_U QP_V COEF
+  sub_block_reported LOG2_W LOG2_H OFFSET DQ_SHIFT IT_SHIFT FLAG_Y FLAG_U FLAG_V START_Y START_U START_V QP_Y QP_U QP_V COEF
   diff WIDTH HEIGHT STRIDE X Y LOG2_W LOG2_H DEPTH ORG CUR DIFF
   satd WIDTH HEIGHT STRIDE X Y W H DEPTH ORG CUR
   ssd_16b WIDTH HEIGHT STRIDE X Y LOG2_W LOG2_H DEPTH ORG CUR
@@ -48,6 +52,7 @@ const USAGE: Usage =
 ORG CUR DIFF ONE TWO REF PRED BI COEF SRC DST are buffers: a length of at most 16384 and as many numbers, where N*V stands
 for N numbers V, as in 4 1 3*0; or LENGTH*V, as in 64*7. All else is one number; a flag is 0 or 1.
 The answer: the number and name of a refusal, or 0 and what came; after | the final contents of the buffer that the call may write.
+A refused job_reported or sub_block_reported says after ; whose number broke which limit.
 A line that starts with # is repeated, an empty one is passed over.";
 
 // What the program says where it is given nothing, or 'help'.

@@ -29,7 +29,7 @@ fn called(c: Call, shorts: &mut [i16], words: &mut [i32], one: &[u16], two: &[u1
     let tag = c.tag;
     match tag {
         b'a' => answer::scale(scaling::scale(values::byte(c.n0))),
-        b'b' | b'c' | b'd' | b'e' | b'f' => transforms::transform(c, shorts, words),
+        b'b' | b'c' | b'd' | b'e' | b'f' | b'o' | b'p' => transforms::transform(c, shorts, words),
         b'g' => distortions::diff(c, one, two, shorts),
         _ => distortions::measure(c, shorts, one, two),
     }
@@ -38,7 +38,7 @@ fn called(c: Call, shorts: &mut [i16], words: &mut [i32], one: &[u16], two: &[u1
 // What the buffer then holds that the call may write.
 fn written(o: &mut Room, at: usize, tag: u8, shorts: &[i16], words: &[i32]) -> usize {
     match tag {
-        b'b' | b'd' | b'e' | b'f' | b'g' => answer::shorts(o, at, shorts),
+        b'b' | b'd' | b'e' | b'f' | b'g' | b'o' | b'p' => answer::shorts(o, at, shorts),
         b'c' => answer::longs(o, at, words),
         _ => at,
     }

@@ -1,7 +1,7 @@
 // Replays calls of the codec's entry points, one to a line, and writes their answers: for trying a call by hand, and for holding recorded answers
 // against the code. `usage` says what a line is. From the bottom: `token` reads a number, `out` writes, `tally` counts, `entry` knows the calls, `read`
-// reads them, `values` has numbers as the calls take them, `answer` and `fault` say, `transforms` and `distortions` call, `line` answers one line and
-// `input` all of them.
+// reads them, `values` has numbers as the calls take them, `answer`, `report` and `fault` say, `transforms` and `distortions` call, `line` answers one
+// line and `input` all of them.
 // Nothing here promises more than to be safe and to end: the meaning of the answers is promised by the crates that are called, and that the text is
 // read and written right is shown by the recorded runs.
 mod answer;
@@ -13,6 +13,7 @@ mod input;
 mod line;
 mod out;
 mod read;
+mod report;
 mod tally;
 mod token;
 mod transforms;

@@ -132,7 +132,8 @@ pub(crate) fn row(o: &mut Room, at: usize, s: &[u8], from: usize, stop: u8) -> u
     next
 }
 
-// What the program says, each piece behind its tag: answers, components, faults, the ranges of kinds of numbers, and what stands before a fault.
+// What the program says, each piece behind its tag: answers, components, faults, the ranges of kinds of numbers, what stands before a fault,
+// why an input can't be read, and of what a report's sentence is made.
 pub(crate) fn words(o: &mut Room, at: usize, tag: u8) -> usize {
     let s = &b"
   0 0 done
@@ -178,6 +179,18 @@ pub(crate) fn words(o: &mut Room, at: usize, tag: u8) -> usize {
   x : it may not be read
   d : it is a folder
   y : the system's error number is
+  . ;
+  :  refused: 
+  W width log 
+  H height log 
+  Q qp 
+  D dequantization shift 
+  S stage shift 
+  F its area from 
+  <  is below 
+  >  is above 
+  P  ends past the buffer's end at 
+  X  overlaps an earlier one at 
 "[..];
     row(
         o,

@@ -270,8 +270,8 @@ fn parts(line: &[u8], table: &[u8], row: usize, call: Call) -> Call {
 // Before which place of the table the row starts that has the line's first word for its name; or the table's end.
 fn known(table: &[u8], line: &[u8], from: usize) -> usize {
     let mut i = 0;
-    while i < 480 && !named(table, i, line, from) {
-        i += 32;
+    while i < 680 && !named(table, i, line, from) {
+        i += 40;
     }
     i
 }
@@ -289,7 +289,7 @@ pub(crate) fn read(line: &[u8], from: usize) -> Call {
     let table = TABLE;
     let t = &table[..];
     let at = known(t, line, from);
-    let tag = byte_at(t, std::num::wrapping_add_usize(at, 31));
+    let tag = byte_at(t, std::num::wrapping_add_usize(at, 39));
     let fault = unknown(byte_at(line, from));
     let known = tag != NONE;
     let c = bare(
@@ -297,5 +297,5 @@ pub(crate) fn read(line: &[u8], from: usize) -> Call {
         either(known, seek(line, from, true), from),
         either_byte(known, NOTHING, fault),
     );
-    parts(line, t, std::num::wrapping_add_usize(at, 14), c)
+    parts(line, t, std::num::wrapping_add_usize(at, 22), c)
 }

@@ -1,12 +1,14 @@
-// The calls of the dequantizer, the two stages, the block job and the sub-block.
+// The calls of the dequantizer, the two stages, the block job and the sub-block; the last two are also called with a report.
 use crate::answer;
 use crate::answer::Reply;
 use crate::read::Call;
 use crate::values::byte;
 use crate::values::word;
+use evc::Job;
+use evc::SubBlock;
 
-fn sub_block(c: Call, coef: &mut [i16]) -> Reply {
-    let call = boundary::sub_block(
+fn sub_block(c: Call) -> SubBlock {
+    boundary::sub_block(
         c.n0,
         c.n1,
         word(c.n2),
@@ -21,12 +23,11 @@ fn sub_block(c: Call, coef: &mut [i16]) -> Reply {
         byte(c.n11),
         byte(c.n12),
         byte(c.n13),
-    );
-    answer::sub_block(sub_block::evc_sub_block_itdq2(coef, call))
+    )
 }
 
-fn job(c: Call, coef: &mut [i16]) -> Reply {
-    let job = evc::job_of(
+fn job(c: Call) -> Job {
+    evc::job_of(
         c.n0,
         c.n1,
         c.n2,
@@ -34,8 +35,7 @@ fn job(c: Call, coef: &mut [i16]) -> Reply {
         word(c.n4),
         byte(c.n5),
         byte(c.n6),
-    );
-    answer::call(job::evc_itdq_job(coef, job))
+    )
 }
 
 pub(crate) fn transform(c: Call, shorts: &mut [i16], words: &mut [i32]) -> Reply {
@@ -47,7 +47,12 @@ pub(crate) fn transform(c: Call, shorts: &mut [i16], words: &mut [i32]) -> Reply
         }
         b'c' => answer::call(itx::itxb0(shorts, words, c.n0, c.n1)),
         b'd' => answer::call(itx::itxb1(words, shorts, c.n0, c.n1, byte(c.n2))),
-        b'e' => job(c, shorts),
-        _ => sub_block(c, shorts),
+        b'e' => answer::call(job::evc_itdq_job(shorts, job(c))),
+        b'f' => answer::sub_block(sub_block::evc_sub_block_itdq2(shorts, sub_block(c))),
+        b'o' => answer::reported(sub_block::evc_itdq_job_reported(shorts, job(c)), c.n1, c.n5),
+        _ => {
+            let r = sub_block::evc_sub_block_itdq2_reported(shorts, sub_block(c));
+            answer::reported(r, c.n0, c.n3)
+        }
     }
 }

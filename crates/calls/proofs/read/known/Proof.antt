@@ -8,7 +8,7 @@ abbrev Inv-loop : tie.InvT-loop
 Inv-loop table line from i₀ i = Unit {0}
 
 abbrev μ-loop : tie.MeasureT-loop
-μ-loop table line from i₀ i = 480 - i
+μ-loop table line from i₀ i = 680 - i
 
 pub known-spec : {M : Type 1} → statement M
 known-spec =
