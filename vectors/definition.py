@@ -2,6 +2,7 @@
 check.py holds the recorded answers against it; the cases use its table to aim at clips."""
 from math import cos, pi, sqrt
 
+import lines
 import refusals
 
 # the magnitudes and the fold of the table of size 64
@@ -78,7 +79,7 @@ def satd(w, h, d, depth):
 
 def result(c):
     """The value of an accepted call, or what it leaves of the buffer that it may write."""
-    call = c['call']
+    call = c['call'].removesuffix(lines.REPORTED)
     if call == 'scale':
         return scale(c['QP'])
     if call == 'dquant':

@@ -22,8 +22,11 @@ FORMS = {
     'sad_bi_16i': 'W:usize H:usize DEPTH:u8 BI:[i16] PRED:[u16]',
 }
 FORMS = {call: [tuple(word.split(':')) for word in form.split()] for call, form in FORMS.items()}
+REPORTED = '_reported'  # what the name of a call ends with that says why it is refused
+FORMS |= {call + REPORTED: FORMS[call] for call in ('job', 'sub_block')}
 # the buffer that a call may write; the other calls answer a value
 WRITES = {'dquant': 'COEF', 'itxb0': 'DST', 'itxb1': 'DST', 'job': 'COEF', 'sub_block': 'COEF', 'diff': 'DIFF'}
+WRITES |= {call: 'COEF' for call in FORMS if call.endswith(REPORTED)}
 RANGES = {'bool': (0, 1), 'u8': (0, 255), 'u16': (0, 65535), 'i16': (-2**15, 2**15 - 1), 'i32': (-2**31, 2**31 - 1), 'usize': (0, 2**64 - 1)}
 NAMES = {1: 'SIZE', 2: 'QP', 3: 'SHIFT', 4: 'DEPTH', 5: 'AREA', 6: 'OVERLAP', 7: 'SAMPLE'}
 
@@ -79,11 +82,19 @@ def parse(line):
     return call
 
 
-def answer(call, number, component=None, value=None, left=None):
-    """The line of an answer; `left` is what the buffer holds that the call may write."""
+def sentence(number, component, what, given, limit):
+    """Why a call is refused: what was given, and the limit that it broke."""
+    broke = {'AREA': "ends past the buffer's end at", 'OVERLAP': 'overlaps an earlier one at'}.get(NAMES[number], 'is below' if given < limit else 'is above')
+    return f'{component} refused: {what} {given} {broke} {limit}'
+
+
+def answer(call, number, component=None, why=None, value=None, left=None):
+    """The line of an answer; `why` is the sentence of a reported refusal, `left` what the buffer holds that the call may write."""
     text = f'{number} {NAMES[number]}' if number else '0 done' if call['call'] in WRITES else f'0 value {value}'
     if component:
         text += ' ' + component
+    if why:
+        text += '; ' + why
     if call['call'] in WRITES:
         text += ' |' + ''.join(f' {v}' for v in left)
     return text

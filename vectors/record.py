@@ -7,10 +7,10 @@ from itertools import chain
 from pathlib import Path
 
 import lines
-from cases import distortion, errors, numbers, refused, transform
+from cases import distortion, errors, numbers, refused, reported, transform
 from refusals import AREA, blocks, refusal, refused_line
 
-FILES = ('numbers', 'transform', 'offsets', 'distortion', 'far_edges', 'refusals')
+FILES = ('numbers', 'transform', 'offsets', 'distortion', 'far_edges', 'refusals', 'reports')
 MOST = 8192  # calls with a longer buffer are left out
 MOST_WRITTEN = 2**20  # `rt try` stops a program that writes more bytes
 HEADS = {
@@ -20,6 +20,7 @@ HEADS = {
     'distortion': 'DIFF, SATD, SSD and SAD, accepted',
     'far_edges': 'references past the right or the bottom edge: AREA',
     'refusals': 'all other refusals, and what stands beside them',
+    'reports': 'jobs and sub-blocks that say why they are refused',
 }
 
 
@@ -38,6 +39,8 @@ def far_edge(c, found):
 
 
 def file_of(c, found):
+    if c['call'].endswith(lines.REPORTED):
+        return 'reports'
     if other_offset(c):
         return 'offsets'
     if far_edge(c, found):
@@ -67,7 +70,7 @@ def sorted_out():
         for line, _ in calls:
             c = lines.parse(line)
             files['numbers'].append((line, c, refusal(c)))
-    for title, calls in chain(transform.groups(), distortion.groups(), refused.groups(), by_hand()):
+    for title, calls in chain(transform.groups(), distortion.groups(), refused.groups(), reported.groups(), by_hand()):
         headed = set()
         for c in calls:
             line = lines.write(c)

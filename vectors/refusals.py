@@ -1,6 +1,6 @@
 #!/usr/bin/env python3
-"""Which calls are refused, and with what: document 01's table of refusal numbers and its "Numbers of the domain", in exact integers. Written from these
-alone, without a look at the library, its definitions or the Rust.
+"""Which calls are refused, and with what: document 01's table of refusal numbers and its "Numbers of the domain", and document 02's request One, in exact
+integers. Written from these alone, without a look at the library, its definitions or the Rust.
   refusals.py < LINES     for each call the expected line where it is refused, and 'accepted' where it isn't"""
 import sys
 
@@ -128,9 +128,35 @@ def sub_block(c):
                 return OVERLAP, b
 
 
+def reports(c):
+    """What each rule that a job or a sub-block breaks has to report, in the order of the tests: the refusal's number, the component, what was given, its
+    number and the limit. Only the first is asked for: what comes behind a size that is not allowed has no meaning."""
+    parts = [('Y', c['START'], c['QP'])] if 'START' in c else [(k, c['START_' + k], c['QP_' + k]) for k in 'YUV' if c['FLAG_' + k]]
+    areas = {}
+    for k, start, qp in parts:
+        less = int(k != 'Y')
+        for side, log in (('width', c['LOG2_W']), ('height', c['LOG2_H'])):
+            if log < 1 + less:
+                yield SIZE, k, side + ' log', log, 1 + less
+            if log > 6 + less:
+                yield SIZE, k, side + ' log', log, 6 + less
+        if qp > 63:
+            yield QP, k, 'qp', qp, 63
+        for kind, shift in (('dequantization', c['DQ_SHIFT']), ('stage', c['IT_SHIFT'])):
+            if shift > 31:
+                yield SHIFT, k, kind + ' shift', shift, 31
+        areas[k] = range(start, start + 2 ** (c['LOG2_W'] - less + c['LOG2_H'] - less))
+        if areas[k][-1] >= len(c['COEF']):
+            yield AREA, k, 'its area from', start, len(c['COEF'])
+    for a, b in ('YU', 'YV', 'UV'):
+        shared = set(areas.get(a, ())) & set(areas.get(b, ()))
+        if shared:
+            yield OVERLAP, b, 'its area from', areas[b].start, min(shared)
+
+
 def refusal(c):
     """None where the call is accepted; else its number and, for a sub-block, the component."""
-    call = c['call']
+    call = c['call'].removesuffix(lines.REPORTED)
     if call == 'sub_block':
         return sub_block(c)
     if call == 'scale':
@@ -150,8 +176,14 @@ def refusal(c):
 
 
 def refused_line(c, found):
-    """The expected line of a refused call: its buffer is as it was."""
-    return lines.answer(c, found[0], component=found[1], left=c.get(lines.WRITES.get(c['call'])))
+    """The expected line of a refused call: its buffer is as it was. A report has to name what the call without one is refused with."""
+    number, component = found
+    left = c.get(lines.WRITES.get(c['call']))
+    if not c['call'].endswith(lines.REPORTED):
+        return lines.answer(c, number, component=component, left=left)
+    first = next(reports(c))
+    assert first[:2] == (number, component or 'Y'), (first, found, c)
+    return lines.answer(c, number, why=lines.sentence(*first), left=left)
 
 
 if __name__ == '__main__':
