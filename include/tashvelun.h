@@ -5,9 +5,10 @@
  *
  *     cc program.c -Iinclude -Ltarget/staticlib -lcapi
  *
- * The promise. Every function ends and answers a number at every input. 0 says that the call is accepted and done. Any
- * other number is a refusal, and then no buffer has changed. A comment below says what an accepted call leaves; the
- * same in full, with every refusal, stands as the function's contract in crates/capi/src, and is proved.
+ * The promise. Every function ends and answers a number at every input; where a struct tv_report comes back, its
+ * `answer` is that number. 0 says that the call is accepted and done. Any other number is a refusal, and then no buffer
+ * has changed. A comment below says what an accepted call leaves; the same in full, with every refusal, stands as the
+ * function's contract in crates/capi/src, and is proved.
  *
  * The one assumption. Each pointer is valid for the length behind it, aligned for its type, and not null even where the
  * length is 0; `value` and `component` point to one number. What a call writes overlaps nothing else that the call is
@@ -82,6 +83,40 @@ uint8_t tv_job(int16_t *coef, size_t coef_len, size_t start, size_t log2_w, size
 uint8_t tv_sub_block(int16_t *coef, size_t coef_len, size_t log2_w, size_t log2_h, int32_t offset, uint8_t dq_shift,
                      uint8_t it_shift, uint8_t flag_y, uint8_t flag_u, uint8_t flag_v, size_t start_y, size_t start_u,
                      size_t start_v, uint8_t qp_y, uint8_t qp_u, uint8_t qp_v, uint8_t *component);
+
+/*
+ * ---- the same with a report ----
+ *
+ * These two do and answer the same as tv_job and tv_sub_block, and a refused call also tells which number broke which
+ * limit. `component` is the one that tv_sub_block names, TV_Y for a job.
+ *
+ *     answer        given                                          limit
+ *     TV_ACCEPTED   0, and `component` 0                           0
+ *     TV_SIZE       log2_w if it is not allowed, else log2_h       the end that it is beyond: 1 or 6; of U and V 2 or 7
+ *     TV_QP         the component's qp                             63
+ *     TV_SHIFT      dq_shift if it is above 31, else it_shift      31
+ *     TV_AREA       the component's start                          coef_len
+ *     TV_OVERLAP    the component's start                          the lowest position that is in both areas
+ *
+ * Logs are told as handed in, so those of U and V are luma's. `given` is log2_w exactly where the width is at fault: a
+ * height is told only where the width is allowed, and then the two differ. In the same way `given` is dq_shift exactly
+ * where that shift is at fault. A log is below the lower end exactly where `given` is less than `limit`.
+ */
+struct tv_report {
+    uint64_t given;
+    uint64_t limit;
+    uint8_t answer;
+    uint8_t component;
+};
+typedef struct tv_report tv_report;
+
+struct tv_report tv_job_reported(int16_t *coef, size_t coef_len, size_t start, size_t log2_w, size_t log2_h, uint8_t qp,
+                                 int32_t offset, uint8_t dq_shift, uint8_t it_shift);
+
+struct tv_report tv_sub_block_reported(int16_t *coef, size_t coef_len, size_t log2_w, size_t log2_h, int32_t offset,
+                                       uint8_t dq_shift, uint8_t it_shift, uint8_t flag_y, uint8_t flag_u,
+                                       uint8_t flag_v, size_t start_y, size_t start_u, size_t start_v, uint8_t qp_y,
+                                       uint8_t qp_u, uint8_t qp_v);
 
 /*
  * ---- distortion ----

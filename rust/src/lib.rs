@@ -2,7 +2,8 @@
 //!
 //! **The promise.** Each function here is one call of the proved function of the same name (`tv_` before it in
 //! `include/tashvelun.h`). At every input it ends and either is accepted, with exactly the result that its definition gives, or is
-//! refused with the lowest [`Refusal`] that applies; then no buffer has changed. It doesn't panic.
+//! refused with the lowest [`Refusal`] that applies; then no buffer has changed. It doesn't panic. [`job_reported`] and
+//! [`sub_block_reported`] also tell which number broke which limit: a [`Report`], which prints as a sentence.
 //!
 //! **What is proved and what is not.** The library's side of each call is proved (crates/capi). This crate is Rust: it hands over pointers
 //! and lengths of slices, which Rust's own rules make valid, aligned and free of overlap where they are written, the one thing that the library
@@ -25,9 +26,11 @@
 
 mod distortion;
 mod raw;
+mod reports;
 mod transform;
 
 pub use distortion::{diff, sad_16b, sad_16i, sad_bi_16b, sad_bi_16i, satd, ssd_16b, ssd_16i, Plane};
+pub use reports::{job_reported, sub_block_reported, Named, Report};
 pub use transform::{dquant, itxb0, itxb1, job, sub_block, Job, Part, SubBlock, SubBlockRefusal};
 
 /// Why a call is refused. Where several apply, the lowest is answered.
@@ -97,4 +100,14 @@ fn answer(number: u8) -> Result<(), Refusal> {
         7 => Refusal::Sample,
         _ => unreachable!("the library is proved to answer 0 to 7"),
     })
+}
+
+/// The component that the library names.
+fn component(number: u8) -> Component {
+    match number {
+        0 => Component::Y,
+        1 => Component::U,
+        2 => Component::V,
+        _ => unreachable!("the library is proved to name 0, 1 or 2"),
+    }
 }

@@ -1,5 +1,5 @@
 //! The inverse transform's calls.
-use crate::{answer, raw, Component, Refusal};
+use crate::{answer, component, raw, Component, Refusal};
 
 /// The dequantizer on the first `2^(log2_w + log2_h)` coefficients, logs 0..=6: each `v` becomes `(v * scale + offset) / 2^shift`, rounded
 /// toward minus infinity and clipped to 16 bits. The rest of the buffer is unchanged. Refuses `Size`, `Shift`, `Area`.
@@ -99,6 +99,13 @@ pub struct SubBlock {
     pub v: Option<Part>,
 }
 
+impl SubBlock {
+    /// Flag, start and qp of Y, U and V. At a component that is not there the library doesn't look.
+    pub(crate) fn parts(&self) -> [(u8, Part); 3] {
+        [self.y, self.u, self.v].map(|part| (u8::from(part.is_some()), part.unwrap_or(Part { start: 0, qp: 0 })))
+    }
+}
+
 /// Why a sub-block call is refused, and for which component. For `Overlap` it is the later one of the pair.
 #[derive(Clone, Copy, Debug, PartialEq, Eq)]
 pub struct SubBlockRefusal {
@@ -132,25 +139,14 @@ impl std::error::Error for SubBlockRefusal {}
 /// assert_eq!(coef, [4, 4, 4, 4, 8, 8, 8, 8]);
 /// ```
 pub fn sub_block(coef: &mut [i16], call: &SubBlock) -> Result<(), SubBlockRefusal> {
-    let SubBlock { log2_w, log2_h, offset, dq_shift, it_shift, y, u, v } = *call;
-    // what stands for a component that is not there: the library doesn't look at it
-    let none = Part { start: 0, qp: 0 };
-    let [py, pu, pv] = [y, u, v].map(|part| part.unwrap_or(none));
-    let [fy, fu, fv] = [y, u, v].map(|part| u8::from(part.is_some()));
-    let mut component = 0;
+    let SubBlock { log2_w, log2_h, offset, dq_shift, it_shift, .. } = *call;
+    let [(fy, y), (fu, u), (fv, v)] = call.parts();
+    let mut named = 0;
     let number = unsafe {
         raw::tv_sub_block(
-            coef.as_mut_ptr(), coef.len(), log2_w, log2_h, offset, dq_shift, it_shift, fy, fu, fv, py.start, pu.start, pv.start, py.qp,
-            pu.qp, pv.qp, &mut component,
+            coef.as_mut_ptr(), coef.len(), log2_w, log2_h, offset, dq_shift, it_shift, fy, fu, fv, y.start, u.start, v.start, y.qp, u.qp,
+            v.qp, &mut named,
         )
     };
-    answer(number).map_err(|refusal| SubBlockRefusal {
-        component: match component {
-            0 => Component::Y,
-            1 => Component::U,
-            2 => Component::V,
-            _ => unreachable!("the library is proved to name 0, 1 or 2"),
-        },
-        refusal,
-    })
+    answer(number).map_err(|refusal| SubBlockRefusal { component: component(named), refusal })
 }
