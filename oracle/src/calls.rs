@@ -1,5 +1,5 @@
-// The thirteen entry points, and a call and its outcome as data: what the case makers write, and what the library, the Rust, the table of refusals
-// and the definition each read in their own way.
+// The thirteen entry points (a job or a sub-block with a report is the same call), and a call and its outcome as data: what the case makers write, and what
+// the library, the Rust, the table of refusals and the definition each read in their own way.
 
 #[derive(Clone, Copy, PartialEq, Eq, Hash, Debug)]
 pub enum Entry {

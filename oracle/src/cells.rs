@@ -1,9 +1,10 @@
 // Counts the cases by cells and prints the table. A cell is an entry point with a size and a depth, a refusal number (of a sub-block also a component), a
-// shift, a qp, or an edge. A cell that should have a case and has none is an error.
+// shift, a qp, an edge, or what a report is about. A cell that should have a case and has none is an error.
 use crate::accepted::{shapes, Shape};
 use crate::calls::*;
 use crate::edges;
 use crate::refusals::Broken;
+use crate::reports::{self, Fault};
 use std::collections::HashMap;
 
 /// What the Rust did with the calls that document 01 refuses with one number.
@@ -27,6 +28,8 @@ pub struct Cells {
     /// accepted cases by a number that they were handed
     valued: HashMap<(Entry, &'static str, u8), u64>,
     edges: HashMap<(Entry, &'static str), u64>,
+    /// reports by component and by what they are about
+    reported: HashMap<(Entry, u8, &'static str), u64>,
     pub beyond: HashMap<(Entry, u8), Beyond>,
 }
 
@@ -48,6 +51,7 @@ impl Cells {
             refused: HashMap::new(),
             valued: HashMap::new(),
             edges: HashMap::new(),
+            reported: HashMap::new(),
             beyond: HashMap::new(),
         }
     }
@@ -79,6 +83,11 @@ impl Cells {
             *self.edges.entry((call.entry(), name)).or_default() += 1;
         }
     }
+    pub fn reported(&mut self, entry: Entry, faults: &[Fault]) {
+        for name in reports::about(faults) {
+            *self.reported.entry((entry, faults[0].component, name)).or_default() += 1;
+        }
+    }
     pub fn count_refused(&self, entry: Entry, number: u8, component: Option<u8>) -> u64 {
         self.refused.get(&(entry, number, component)).copied().unwrap_or(0)
     }
@@ -104,6 +113,7 @@ impl Cells {
         self.print_refusals(refused, &mut empty, &mut cells);
         self.print_values(&mut empty, &mut cells);
         self.print_edges(&mut empty, &mut cells);
+        self.print_reports(&mut empty, &mut cells);
         (empty, cells)
     }
 
@@ -233,6 +243,19 @@ impl Cells {
                 })
                 .collect();
             println!("{:<11} {}", e.name(), list.join("; "));
+        }
+    }
+
+    fn print_reports(&self, empty: &mut Vec<String>, cells: &mut usize) {
+        println!("\nReports of refused calls, by component and by what broke its limit; before, with, after: where it starts beside the one that it overlaps");
+        for &e in &self.entries {
+            for (component, names) in reports::required(e) {
+                *cells += names.len();
+                let count = |name| self.reported.get(&(e, component, name)).copied().unwrap_or(0);
+                let list: Vec<String> = names.iter().map(|name| format!("{name} {}", count(*name))).collect();
+                empty.extend(names.iter().filter(|name| count(**name) == 0).map(|name| format!("{}: report {component}, {name}", e.name())));
+                println!("{:<11} {} {}", e.name(), ["Y", "U", "V"][component as usize], list.join("; "));
+            }
         }
     }
 

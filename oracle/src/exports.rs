@@ -1,5 +1,14 @@
 // The exports of the proved library `capi`, as C sees them: a slice is a pointer and a length, and the number answered is 0 or a refusal's.
 
+#[repr(C)]
+#[derive(Clone, Copy, PartialEq, Debug)]
+pub struct TvReport {
+    pub given: u64,
+    pub limit: u64,
+    pub answer: u8,
+    pub component: u8,
+}
+
 extern "C" {
     pub fn tv_dquant(coef: *mut i16, n: usize, log2_w: usize, log2_h: usize, scale: i32, offset: i32, shift: u8) -> u8;
     pub fn tv_itxb0(src: *const i16, n: usize, dst: *mut i32, m: usize, log2_size: usize, log2_line: usize) -> u8;
@@ -24,6 +33,35 @@ extern "C" {
         qp_v: u8,
         component: *mut u8,
     ) -> u8;
+    pub fn tv_job_reported(
+        coef: *mut i16,
+        n: usize,
+        start: usize,
+        log2_w: usize,
+        log2_h: usize,
+        qp: u8,
+        offset: i32,
+        dq_shift: u8,
+        it_shift: u8,
+    ) -> TvReport;
+    pub fn tv_sub_block_reported(
+        coef: *mut i16,
+        n: usize,
+        log2_w: usize,
+        log2_h: usize,
+        offset: i32,
+        dq_shift: u8,
+        it_shift: u8,
+        flag_y: u8,
+        flag_u: u8,
+        flag_v: u8,
+        start_y: usize,
+        start_u: usize,
+        start_v: usize,
+        qp_y: u8,
+        qp_u: u8,
+        qp_v: u8,
+    ) -> TvReport;
     pub fn tv_diff(
         org: *const u16,
         n: usize,

@@ -21,8 +21,7 @@ impl Library {
 
     /// The outcome of a call, or the damage that it did.
     pub fn run(&mut self, call: &Call, r: &mut Random) -> Result<Outcome, String> {
-        let mut place = || r.pick(&[Place::AfterFence, Place::Between, Place::BeforeFence, Place::BeforeFence]);
-        let (p, q, s) = (place(), place(), place());
+        let (p, q, s) = (place(r), place(r), place(r));
         let mut damage = Vec::new();
         let mut outcome = Outcome { number: 0, component: None, value: None, left: Left::Nothing };
         match call {
@@ -51,8 +50,7 @@ impl Library {
             Call::SubBlock { coef, log2_w, log2_h, offset, dq_shift, it_shift, parts: [y, u, v] } => {
                 let c = self.first.lend(coef, p);
                 let was = 3 + (r.next() % 253) as u8; // no component's number
-                let mut flag = |p: &Part| if p.flag { r.pick(&[1, 1, 1, 2, 128, 255]) } else { 0 }; // any number but 0 is set
-                let (flag_y, flag_u, flag_v) = (flag(y), flag(u), flag(v));
+                let (flag_y, flag_u, flag_v) = (flag(y, r), flag(u, r), flag(v, r));
                 let component = self.value.lend(&[was], Place::BeforeFence);
                 outcome.number = unsafe {
                     tv_sub_block(
@@ -84,6 +82,37 @@ impl Library {
             Ok(outcome)
         } else {
             Err(format!("answered {} and {}", outcome.number, damage.join(", ")))
+        }
+    }
+
+    /// The report of a job or a sub-block and the buffer that it leaves, or the damage that it did.
+    pub fn reported(&mut self, call: &Call, r: &mut Random) -> Result<(TvReport, Left), String> {
+        let p = place(r);
+        let (c, report) = match call {
+            Call::Job { coef, job: j } => {
+                let c = self.first.lend(coef, p);
+                let report = unsafe { tv_job_reported(c.at, c.length, j.start, j.log2_w, j.log2_h, j.qp, j.offset, j.dq_shift, j.it_shift) };
+                (c, report)
+            }
+            Call::SubBlock { coef, log2_w, log2_h, offset, dq_shift, it_shift, parts: [y, u, v] } => {
+                let c = self.first.lend(coef, p);
+                let (flag_y, flag_u, flag_v) = (flag(y, r), flag(u, r), flag(v, r));
+                let report = unsafe {
+                    tv_sub_block_reported(
+                        c.at, c.length, *log2_w, *log2_h, *offset, *dq_shift, *it_shift, flag_y, flag_u, flag_v, y.start, u.start, v.start, y.qp,
+                        u.qp, v.qp,
+                    )
+                };
+                (c, report)
+            }
+            _ => unreachable!("a call without a report"),
+        };
+        let mut damage = Vec::new();
+        let left = written(&c, Left::Short, &mut damage);
+        if damage.is_empty() {
+            Ok((report, left))
+        } else {
+            Err(format!("reported {report:?} and {}", damage.join(", ")))
         }
     }
 
@@ -164,6 +193,19 @@ impl Library {
             }
             _ => unreachable!("no such entry point"),
         }
+    }
+}
+
+fn place(r: &mut Random) -> Place {
+    r.pick(&[Place::AfterFence, Place::Between, Place::BeforeFence, Place::BeforeFence])
+}
+
+/// Any number but 0 is set.
+fn flag(p: &Part, r: &mut Random) -> u8 {
+    if p.flag {
+        r.pick(&[1, 1, 1, 2, 128, 255])
+    } else {
+        0
     }
 }
 

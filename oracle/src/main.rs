@@ -15,9 +15,11 @@ mod limits;
 mod mutants;
 mod random;
 mod refusals;
+mod reports;
 mod room;
 mod shim;
 mod wrong_blocks;
+mod wrong_reports;
 
 use calls::*;
 use cells::Cells;
@@ -41,6 +43,8 @@ struct Run {
     /// sub-blocks that the source's own call was asked for too
     own_calls: u64,
     compared: u64,
+    /// of those, jobs and sub-blocks called with a report too
+    reported: u64,
 }
 
 /// COUNT, SEED and the entry points, from the command line.
@@ -65,8 +69,16 @@ fn main() {
     let per_number = LEAST_REFUSED.max(count / 50);
     println!("seed {seed}; at least {count} accepted cases for each entry point and {per_number} refused ones for each of its numbers");
     shim::keep_traps();
-    let mut run =
-        Run { seed, library: Library::new(), cells: Cells::new(&entries), mutants: Mutants::of(&entries), differences: 0, own_calls: 0, compared: 0 };
+    let mut run = Run {
+        seed,
+        library: Library::new(),
+        cells: Cells::new(&entries),
+        mutants: Mutants::of(&entries),
+        differences: 0,
+        own_calls: 0,
+        compared: 0,
+        reported: 0,
+    };
     let tables = expected::tables_agree();
     for &entry in &entries {
         let began = Instant::now();
@@ -149,6 +161,31 @@ impl Run {
                 self.mutants.hold(call, &got, broken, r);
             }
         }
+        if let Some(faults) = reports::faults(call) {
+            self.hold_report(id, call, &want, &faults, r);
+        }
+    }
+
+    /// The same call with a report, on a fresh copy of its buffer.
+    fn hold_report(&mut self, id: &str, call: &Call, want: &Outcome, faults: &[reports::Fault], r: &mut Random) {
+        let due = reports::report(faults);
+        if (due.answer, due.component) != (want.number, want.component.unwrap_or(0)) {
+            self.differ(id, call, &format!("two readings of the refusals differ: {}, {due:?}", want.describe()));
+        }
+        self.cells.reported(call.entry(), faults);
+        self.reported += 1;
+        match self.library.reported(call, r) {
+            Err(damage) => self.differ(id, call, &damage),
+            Ok((got, left)) => {
+                if got != due {
+                    self.differ(id, call, &format!("expected {due:?}\n    got      {got:?}"));
+                }
+                if left != want.left {
+                    self.differ(id, call, "with a report it leaves another buffer");
+                }
+                self.mutants.hold_report(call, &got, faults, r);
+            }
+        }
     }
 
     /// Counts what the Rust does with a call that document 01 refuses.
@@ -207,6 +244,7 @@ impl Run {
             self.cells.all_refused(),
             entries.len()
         );
+        println!("  reports     {} of these called with a report as well", self.reported);
         println!("  own calls   {} sub-blocks were put to the source's own call as well", self.own_calls);
         println!("  cells       {cells}, of which {} empty", empty.len());
         println!("  mutants     {}, of which {} not caught", self.mutants.0.len(), uncaught.len());

@@ -3,12 +3,16 @@
 //   twists       a wrong definition, on accepted calls
 //   swapped      width and height exchanged, on accepted calls: the mutant may refuse, or accept and give another result
 //   tables       a wrong table of refusals, on all calls: a limit one off, or another order of the tests
+//   reports      a wrong report, on jobs and sub-blocks
 use crate::calls::*;
 use crate::definition::Twist;
 use crate::expected;
+use crate::exports::TvReport;
 use crate::limits;
 use crate::random::Random;
 use crate::refusals;
+use crate::reports::Fault;
+use crate::wrong_reports as wrong;
 
 const MANY: u64 = 20_000;
 
@@ -29,6 +33,7 @@ enum Kind {
     Limit(fn(&mut Call) -> bool),
     /// the table of refusals answers another one of its broken tests
     Order(fn(&[refusals::Broken]) -> Option<refusals::Broken>),
+    Report(fn(&Call, &[Fault]) -> Option<TvReport>),
 }
 
 pub struct Mutants(pub Vec<Mutant>);
@@ -72,13 +77,36 @@ impl Mutants {
         add("the highest broken number is answered", &ENTRIES, || Kind::Order(|b| b.iter().copied().max_by_key(|b| b.number)));
         add("the lowest number goes before the component", &[SubBlock], || Kind::Order(|b| b.iter().copied().min_by_key(|b| b.number)));
         add("the last broken component is named", &[SubBlock], || Kind::Order(|b| b.last().copied()));
+        let both = [Job, SubBlock];
+        add("report: given and limit are exchanged", &both, || Kind::Report(wrong::exchanged));
+        add("report: the height where the width is broken", &both, || Kind::Report(wrong::height_for_width));
+        add("report: the height goes before the width", &both, || Kind::Report(wrong::height_first));
+        add("report: the stage shift goes first", &both, || Kind::Report(wrong::stage_first));
+        add("report: the lower limit for a log too high", &both, || Kind::Report(wrong::lower_limit));
+        add("report: the upper limit for a log too low", &both, || Kind::Report(wrong::upper_limit));
+        add("report: the limit is the first number refused", &both, || Kind::Report(wrong::first_refused));
+        add("report: luma's limits for chroma", &[SubBlock], || Kind::Report(wrong::luma_limits));
+        add("report: chroma's own logs", &[SubBlock], || Kind::Report(wrong::own_logs));
+        add("report: AREA gives the area's end", &both, || Kind::Report(wrong::area_end));
+        add("report: AREA's limit is the area's end", &both, || Kind::Report(wrong::area_end_for_limit));
+        add("report: AREA's limit is the last place", &both, || Kind::Report(wrong::last_place));
+        add("report: OVERLAP gives the earlier start", &[SubBlock], || Kind::Report(wrong::earlier_start));
+        add("report: OVERLAP names the earlier one", &[SubBlock], || Kind::Report(wrong::earlier_named));
+        add("report: OVERLAP's limit is the start given", &[SubBlock], || Kind::Report(wrong::limit_is_later_start));
+        add("report: OVERLAP's limit is the other's start", &[SubBlock], || Kind::Report(wrong::limit_is_earlier_start));
+        add("report: U's fault is told for V", &[SubBlock], || Kind::Report(wrong::v_for_u));
+        add("report: the last fault is told", &both, || Kind::Report(wrong::last_fault));
+        add("report: the lowest reason goes first", &[SubBlock], || Kind::Report(wrong::lowest_reason));
+        add("report: an accepted call gives numbers", &both, || Kind::Report(wrong::numbers_accepted));
+        add("report: an accepted call answers 1", &both, || Kind::Report(wrong::answer_accepted));
+        add("report: an accepted call names U", &both, || Kind::Report(wrong::component_accepted));
         Mutants(all)
     }
 
     /// Holds the library's outcome of a call against every mutant of its entry point; once each has seen many calls, against one in eight.
     pub fn hold(&mut self, call: &Call, got: &Outcome, broken: &[refusals::Broken], r: &mut Random) {
         for m in self.0.iter_mut().filter(|m| m.entry == call.entry()) {
-            if m.tried >= MANY && !r.one_in(8) {
+            if m.passes(r) {
                 continue;
             }
             let same = match &m.kind {
@@ -107,6 +135,25 @@ impl Mutants {
             m.tried += 1;
             m.caught += !same as u64;
         }
+    }
+
+    /// The same with the library's report.
+    pub fn hold_report(&mut self, call: &Call, got: &TvReport, faults: &[Fault], r: &mut Random) {
+        for m in self.0.iter_mut().filter(|m| m.entry == call.entry()) {
+            let Kind::Report(wrong) = m.kind else { continue };
+            let Some(told) = wrong(call, faults) else { continue };
+            if !m.passes(r) {
+                m.tried += 1;
+                m.caught += (told != *got) as u64;
+            }
+        }
+    }
+}
+
+impl Mutant {
+    /// It has seen many calls, and lets seven of eight go.
+    fn passes(&self, r: &mut Random) -> bool {
+        self.tried >= MANY && !r.one_in(8)
     }
 }
 
