@@ -3,6 +3,10 @@
    call takes, by the lowest stack pointer of all its instructions, and a last line for the deepest. bench/count builds and runs it. */
 #include "tashvelun.h"
 
+/* an archive from before these has none of them, and then their cases are left out */
+#pragma weak tv_job_reported
+#pragma weak tv_sub_block_reported
+
 static long call(long n, long a, long b, long c, long d)
 {
     long r;
@@ -119,6 +123,15 @@ static void sub_block(void) { answer = tv_sub_block(coef, 12288, w, h, 32, 6, 12
 static void sub_block_luma(void) { answer = tv_sub_block(coef, 12288, w, h, 32, 6, 12, 1, 0, 0, 0, 4096, 8192, 22, 22, 22, &component); }
 static void sub_block_none(void) { answer = tv_sub_block(coef, 12288, w, h, 32, 6, 12, 0, 0, 0, 0, 4096, 8192, 22, 22, 22, &component); }
 static void sub_block_overlap(void) { answer = tv_sub_block(coef, 12288, w, h, 32, 6, 12, 1, 1, 1, 0, 4096, 4096, 22, 22, 22, &component); }
+static void job_reported(void) { answer = tv_job_reported(coef, 12288, 0, w, h, 22, 32, 6, 12).answer; }
+static void job_reported_qp(void) { answer = tv_job_reported(coef, 12288, 0, w, h, 64, 32, 6, 12).answer; }
+static void job_reported_shift(void) { answer = tv_job_reported(coef, 12288, 0, w, h, 22, 32, 6, 32).answer; }
+static void job_reported_area(void) { answer = tv_job_reported(coef, 12288, 12288, w, h, 22, 32, 6, 12).answer; }
+static void sub_reported(uint8_t y, uint8_t u, uint8_t v, size_t start) { answer = tv_sub_block_reported(coef, 12288, w, h, 32, 6, 12, y, u, v, 0, 4096, start, 22, 22, 22).answer; }
+static void sub_block_reported(void) { sub_reported(1, 1, 1, 8192); }
+static void sub_block_reported_luma(void) { sub_reported(1, 0, 0, 8192); }
+static void sub_block_reported_none(void) { sub_reported(0, 0, 0, 8192); }
+static void sub_block_reported_overlap(void) { sub_reported(1, 1, 1, 4096); }
 static void difference(void) { answer = tv_diff(one, SIDE * SIDE, SIDE, SIDE, SIDE, 3, 5, w, h, packed, 4096, 10, diff, 4096); }
 static void satd(void) { answer = tv_satd(one, SIDE * SIDE, SIDE, SIDE, SIDE, 3, 5, w, h, packed, 4096, 10, &value); }
 static void ssd_16b(void) { answer = tv_ssd_16b(one, SIDE * SIDE, SIDE, SIDE, SIDE, 3, 5, w, h, packed, 4096, 10, &square); }
@@ -184,6 +197,22 @@ __attribute__((force_align_arg_pointer)) void _start(void)
     tell("sub_block_luma", sub_block_luma, 2, 2);
     tell("sub_block_none", sub_block_none, 2, 2);
     tell("sub_block_overlap", sub_block_overlap, 2, 2);
+    if (tv_job_reported) {
+        squares("job_reported", job_reported, 1, 7);
+        tell("job_reported", job_reported, 1, 6);
+        tell("job_reported", job_reported, 6, 1);
+        tell("job_reported", job_reported, 2, 5);
+        tell("job_reported", job_reported, 3, 4);
+        tell("job_reported_qp", job_reported_qp, 2, 2);
+        tell("job_reported_shift", job_reported_shift, 2, 2);
+        tell("job_reported_area", job_reported_area, 2, 2);
+    }
+    if (tv_sub_block_reported) {
+        squares("sub_block_reported", sub_block_reported, 1, 7);
+        tell("sub_block_reported_luma", sub_block_reported_luma, 2, 2);
+        tell("sub_block_reported_none", sub_block_reported_none, 2, 2);
+        tell("sub_block_reported_overlap", sub_block_reported_overlap, 2, 2);
+    }
     squares("diff", difference, 0, 7);
     tell("diff", difference, 5, 0);
     tell("diff", difference, 0, 5);

@@ -14,11 +14,12 @@ DEPTHS = [8, 10, 14]
 SIZES = [2, 4, 8, 16, 32, 64]
 OBLONG = [(64, 4), (4, 64), (16, 8), (32, 2), (2, 64)]
 TRANSFORM = ["dquant", "itxb0", "itxb1", "job", "sub_block"]
+REPORTED = ["job_reported", "sub_block_reported"]  # no bars, and not in the plot
 DISTORTION = ["sad_16b", "sad_16i", "sad_bi_16b", "sad_bi_16i", "ssd_16b", "ssd_16i", "diff", "satd"]
 SIGNED = ["sad_16b", "sad_bi_16b", "ssd_16i"]
 PLACES = ["corner", "left", "above", "outside"]
 # the rows of the tables by size: name, kernel, place
-ROWS = [(k, k, "") for k in TRANSFORM + DISTORTION] + [(f"{k}, corner", k, "corner") for k in SIGNED]
+ROWS = [(k, k, "") for k in TRANSFORM + REPORTED + DISTORTION] + [(f"{k}, corner", k, "corner") for k in SIGNED]
 COUNTED = 10  # the depth at which instructions are counted
 # what before.tsv is
 BEFORE = [
@@ -117,6 +118,13 @@ def table(head, rows):
     return lines + ["| " + " | ".join(r) + " |" for r in rows] if rows else ["not measured"]
 
 
+def oblong(cell):
+    """Oblong jobs and one line of 64; cell(kernel, place, width, height) is what is told of one."""
+    rows = [[k] + [cell(k, "", w, h) for w, h in OBLONG] + ["-"] for k in ("job", "job_reported")]
+    rows += [[k] + ["-" for _ in OBLONG] + [cell(k, "one line", 64, 1)] for k in ("itxb0", "itxb1")]
+    return table([""] + [f"{w}x{h}" for w, h in OBLONG] + ["one line of 64"], rows) + [""]
+
+
 def both(pair, show=whole):
     return "-" if pair is None else f"{show(pair[0])} / {show(pair[1])}"
 
@@ -174,10 +182,7 @@ def before_part(run, before):
     for what in "steps", "ns":
         rows = [[name] + [change(run, before, what, k, p, s, s, COUNTED) for s in SIZES] for name, k, p in ROWS]
         lines += [f"{WORDS[what].capitalize()}, ours / Rust at depth {COUNTED}, before and after:", ""] + table([""] + [str(s) for s in SIZES], rows) + [""]
-        head = [f"job {w}x{h}" for w, h in OBLONG] + ["itxb0, one line", "itxb1, one line"]
-        cells = [change(run, before, what, "job", "", w, h, COUNTED) for w, h in OBLONG]
-        cells += [change(run, before, what, k, "one line", 64, 1, COUNTED) for k in ("itxb0", "itxb1")]
-        lines += table(head, [cells]) + [""]
+        lines += oblong(lambda *case: change(run, before, what, *case, COUNTED))
     return lines
 
 
@@ -205,25 +210,19 @@ def tables(run, before):
     told = {"corner": "half of both", "left": "half of the columns", "above": "half of the rows", "outside": "all"}
     out += table([""] + [told[p] for p in PLACES], [[k] + [run.ratios(k, p, 64, 64) for p in PLACES] for k in SIGNED]) + [""]
     out += ["Oblong jobs (width x height) and one line of 64:", ""]
-    head = [f"job {w}x{h}" for w, h in OBLONG] + ["itxb0, one line", "itxb1, one line"]
-    cells = [run.ratios("job", "", w, h) for w, h in OBLONG] + [run.ratios(k, "one line", 64, 1) for k in ("itxb0", "itxb1")]
-    out += table(head, [cells]) + [""]
+    out += oblong(run.ratios)
 
     for what, title in ("ns", "Nanoseconds a call at depth 10, ours / Rust"), ("steps", "Instructions a call on x86-64 at depth 10, ours / Rust"):
         out += [f"## {title}", ""]
         show = whole if what == "ns" else lambda x: f"{x:,.0f}"
         rows = [[name] + [both(run.pair(what, k, p, s, s, COUNTED), show) for s in SIZES] for name, k, p in ROWS]
         out += table([""] + [str(s) for s in SIZES], rows) + [""]
-        cells = [both(run.pair(what, "job", "", w, h, COUNTED), show) for w, h in OBLONG]
-        cells += [both(run.pair(what, k, "one line", 64, 1, COUNTED), show) for k in ("itxb0", "itxb1")]
-        out += table(head, [cells]) + [""]
+        out += oblong(lambda *case: both(run.pair(what, *case, COUNTED), show))
     if any(run.ratio("steps", *key) is not None for key in run.cases):
         out += ["As ratios:", ""]
         rows = [[name] + [figure(run.ratio("steps", k, p, s, s, COUNTED)) for s in SIZES] for name, k, p in ROWS]
         out += table([""] + [str(s) for s in SIZES], rows) + [""]
-        cells = [figure(run.ratio("steps", "job", "", w, h, COUNTED)) for w, h in OBLONG]
-        cells += [figure(run.ratio("steps", k, "one line", 64, 1, COUNTED)) for k in ("itxb0", "itxb1")]
-        out += table(head, [cells]) + [""]
+        out += oblong(lambda *case: figure(run.ratio("steps", *case, COUNTED)))
     return out, bad
 
 

@@ -66,6 +66,35 @@ static void transform(void)
     ARE(sub, 4, 4, 4, 4, 8, 8, 8, 8);
 }
 
+#define TELLS(it, a, c, g, l)                                                \
+    do {                                                                     \
+        const struct tv_report told_ = (it);                                 \
+        IS(told_.answer, a);                                                 \
+        IS(told_.component, c);                                              \
+        IS(told_.given, g);                                                  \
+        IS(told_.limit, l);                                                  \
+    } while (0)
+
+static void reports(void)
+{
+    int16_t job[6] = {9, 4, 0, 0, 0, 9};
+    TELLS(tv_job_reported(job, 6, 1, 1, 1, 4, 32, 6, 12), TV_ACCEPTED, 0, 0, 0);
+    ARE(job, 9, 4, 4, 4, 4, 9);
+    TELLS(tv_job_reported(job, 6, 3, 0, 7, 64, 32, 6, 40), TV_SIZE, TV_Y, 0, 1);
+    TELLS(tv_job_reported(job, 6, 3, 1, 7, 64, 32, 6, 40), TV_SIZE, TV_Y, 7, 6);
+    TELLS(tv_job_reported(job, 6, 3, 1, 1, 64, 32, 6, 40), TV_QP, TV_Y, 64, 63);
+    TELLS(tv_job_reported(job, 6, 3, 1, 1, 63, 32, 6, 40), TV_SHIFT, TV_Y, 40, 31);
+    TELLS(tv_job_reported(job, 6, 3, 1, 1, 63, 32, 6, 12), TV_AREA, TV_Y, 3, 6);
+    ARE(job, 9, 4, 4, 4, 4, 9);
+
+    int16_t sub[8] = {4, 0, 0, 0, 8, 0, 0, 0};
+    TELLS(tv_sub_block_reported(sub, 8, 2, 2, 32, 6, 12, 0, 1, 1, 0, 0, 4, 4, 4, 4), TV_ACCEPTED, 0, 0, 0);
+    ARE(sub, 4, 4, 4, 4, 8, 8, 8, 8);
+    TELLS(tv_sub_block_reported(sub, 8, 2, 8, 32, 6, 12, 0, 1, 1, 0, 0, 4, 4, 4, 4), TV_SIZE, TV_U, 8, 7);
+    TELLS(tv_sub_block_reported(sub, 8, 2, 2, 32, 6, 12, 0, 1, 1, 0, 3, 1, 4, 4, 4), TV_OVERLAP, TV_V, 1, 3);
+    ARE(sub, 4, 4, 4, 4, 8, 8, 8, 8);
+}
+
 static void distortion(void)
 {
     const uint16_t org[6] = {1, 2, 3, 4, 5, 6}, cur[4] = {7, 7, 7, 7}, large[4] = {7, 256, 7, 7};
@@ -127,6 +156,7 @@ static void distortion(void)
 int main(void)
 {
     transform();
+    reports();
     distortion();
     printf(wrong ? "each: WRONG\n" : "each: every function answers as it must\n");
     return wrong;

@@ -116,9 +116,9 @@ pub fn at<R: Rust>(seed: u64) -> Vec<Case> {
         all.push(dquant::<R>(r, l, l));
         all.push(itxb0::<R>(r, l, l));
         all.push(itxb1::<R>(r, l, l));
-        all.push(job::<R>(r, l, l));
+        all.extend(jobs::<R>(r, l, l));
         if l > 1 {
-            all.push(sub_block::<R>(r, l, l));
+            all.extend(sub_blocks::<R>(r, l, l));
         }
         all.push(sad_16b::<R>(r, l, Place::Inside));
         all.push(sad_16i::<R>(r, l));
@@ -139,7 +139,7 @@ pub fn at<R: Rust>(seed: u64) -> Vec<Case> {
         }
     }
     for (w, h) in [(6, 2), (2, 6), (4, 3), (5, 1), (1, 6)] {
-        all.push(job::<R>(r, w, h));
+        all.extend(jobs::<R>(r, w, h));
     }
     all.push(itxb0::<R>(r, 6, 0));
     all.push(itxb1::<R>(r, 6, 0));

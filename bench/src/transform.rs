@@ -40,32 +40,79 @@ pub fn dquant<R: Rust>(r: &mut Random, log2_w: usize, log2_h: usize) -> Case {
     in_place::<R>("dquant", 1 << log2_w, 1 << log2_h, ours, rust, coef)
 }
 
-pub fn job<R: Rust>(r: &mut Random, log2_w: usize, log2_h: usize) -> Case {
-    let n = 1 << (log2_w + log2_h);
-    let from = coefs(r, n);
+/// Logs, qp, offset and shifts.
+type JobArgs = (usize, usize, u8, i32, u8, u8);
+
+/// A job by each of its calls, on the same coefficients.
+pub fn jobs<R: Rust>(r: &mut Random, log2_w: usize, log2_h: usize) -> [Case; 2] {
+    let from = coefs(r, 1 << (log2_w + log2_h));
+    [
+        job::<R>("job", from, log2_w, log2_h, |coef, (w, h, qp, offset, dq_shift, it_shift)| unsafe {
+            tv_job(coef.at, coef.n, 0, w, h, qp, offset, dq_shift, it_shift)
+        }),
+        job::<R>("job_reported", from, log2_w, log2_h, |coef, (w, h, qp, offset, dq_shift, it_shift)| unsafe {
+            tv_job_reported(coef.at, coef.n, 0, w, h, qp, offset, dq_shift, it_shift).answer
+        }),
+    ]
+}
+
+fn job<R: Rust>(
+    kernel: &'static str,
+    from: &'static [i16],
+    log2_w: usize,
+    log2_h: usize,
+    call: impl Fn(Out<i16>, JobArgs) -> u8 + Copy + 'static,
+) -> Case {
     let coef = Out::of(from);
     let refill = move || coef.lent().copy_from_slice(black_box(from));
     let (offset, dq_shift, it_shift) = driver(R::DEPTH, log2_w, log2_h);
     let args = hidden((log2_w, log2_h, QP, offset, dq_shift, it_shift));
-    let ours = side(refill, move || {
-        let (w, h, qp, offset, dq_shift, it_shift) = *args();
-        done(unsafe { tv_job(coef.at, coef.n, 0, w, h, qp, offset, dq_shift, it_shift) })
-    });
+    let ours = side(refill, move || done(call(coef, *args())));
     let args = hidden((log2_w, log2_h, R::scale(QP)));
     let rust = side(refill, move || {
         let (w, h, scale) = *args();
         R::itdq(coef.lent(), w, h, scale);
         0
     });
-    in_place::<R>("job", 1 << log2_w, 1 << log2_h, ours, rust, coef)
+    in_place::<R>(kernel, 1 << log2_w, 1 << log2_h, ours, rust, coef)
 }
 
-/// U and V of a sub-block, at the Rust's own starts. Not Y beside them: there the Rust's driver picks another shift for Y, and document 01 shares one.
-pub fn sub_block<R: Rust>(r: &mut Random, log2_w: usize, log2_h: usize) -> Case {
+/// Logs, offset and shifts; qp, flag and start of Y, U and V.
+type SubBlockArgs = (usize, usize, i32, u8, u8, [u8; 3], [u8; 3], [usize; 3]);
+
+/// U and V of a sub-block by each of its calls, on the same coefficients, at the Rust's own starts. Not Y beside them: there the Rust's driver picks another
+/// shift for Y, and document 01 shares one.
+pub fn sub_blocks<R: Rust>(r: &mut Random, log2_w: usize, log2_h: usize) -> [Case; 2] {
+    let from = coefs(r, 6144);
+    [
+        sub_block::<R>("sub_block", from, log2_w, log2_h, |coef, (w, h, offset, dq_shift, it_shift, qp, flag, start)| unsafe {
+            let mut part = 0u8;
+            tv_sub_block(
+                coef.at, coef.n, w, h, offset, dq_shift, it_shift, flag[0], flag[1], flag[2], start[0], start[1], start[2], qp[0], qp[1], qp[2],
+                &mut part,
+            )
+        }),
+        sub_block::<R>("sub_block_reported", from, log2_w, log2_h, |coef, (w, h, offset, dq_shift, it_shift, qp, flag, start)| {
+            let report = unsafe {
+                tv_sub_block_reported(
+                    coef.at, coef.n, w, h, offset, dq_shift, it_shift, flag[0], flag[1], flag[2], start[0], start[1], start[2], qp[0], qp[1], qp[2],
+                )
+            };
+            report.answer
+        }),
+    ]
+}
+
+fn sub_block<R: Rust>(
+    kernel: &'static str,
+    from: &'static [i16],
+    log2_w: usize,
+    log2_h: usize,
+    call: impl Fn(Out<i16>, SubBlockArgs) -> u8 + Copy + 'static,
+) -> Case {
     const U: usize = 4096;
     const V: usize = 5120;
     let n = 1 << (log2_w + log2_h - 2);
-    let from = coefs(r, 6144);
     let coef = Out::of(from);
     let refill = move || {
         coef.lent()[U..U + n].copy_from_slice(black_box(&from[U..U + n]));
@@ -73,23 +120,14 @@ pub fn sub_block<R: Rust>(r: &mut Random, log2_w: usize, log2_h: usize) -> Case 
     };
     let (offset, dq_shift, it_shift) = driver(R::DEPTH, log2_w - 1, log2_h - 1);
     let args = hidden((log2_w, log2_h, offset, dq_shift, it_shift, [QP, QP + 1, QP + 2], [0u8, 1, 1], [0usize, U, V]));
-    let ours = side(refill, move || {
-        let (w, h, offset, dq_shift, it_shift, qp, flag, start) = *args();
-        let mut part = 0u8;
-        done(unsafe {
-            tv_sub_block(
-                coef.at, coef.n, w, h, offset, dq_shift, it_shift, flag[0], flag[1], flag[2], start[0], start[1], start[2], qp[0], qp[1], qp[2],
-                &mut part,
-            )
-        })
-    });
+    let ours = side(refill, move || done(call(coef, *args())));
     let args = hidden((log2_w as u8, log2_h as u8, [QP, QP + 1, QP + 2], [false, true, true]));
     let rust = side(refill, move || {
         let (w, h, qp, flag) = args();
         R::sub_block(coef.lent(), *w, *h, *qp, flag);
         0
     });
-    in_place::<R>("sub_block", 1 << log2_w, 1 << log2_h, ours, rust, coef)
+    in_place::<R>(kernel, 1 << log2_w, 1 << log2_h, ours, rust, coef)
 }
 
 pub fn itxb0<R: Rust>(r: &mut Random, log2_size: usize, log2_line: usize) -> Case {
