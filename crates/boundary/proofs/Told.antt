@@ -1,6 +1,6 @@
 -- What a caller is told leaves no choice: of one answer, and of what stood before in the place lent for it, it makes one number and one end. And no
 -- two reports are told alike. Assumes nothing.
-use Prim.Native.Nat.{ℕ, zero, suc}
+use Prim.Native.Nat.{ℕ}
 use native.Mathlib.Omega.{arith}
 use mathlib.Core.Path.{_≡_, refl, sym, ap, _∙_}
 use Rattle.evc.specs.declared.Component.{Component}

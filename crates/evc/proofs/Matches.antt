@@ -1,5 +1,4 @@
 -- What a `match` on the verdict of a call's tests tells of its reading, of a call's and of a sub-block's; and one on a report. Assumes nothing.
-use Prim.Native.Nat.{ℕ}
 use native.Mathlib.Omega.{arith}
 use mathlib.Core.Path.{_≡_, refl}
 use denote.Enum.Declared.{tagOf}

@@ -1,11 +1,11 @@
 -- Theorems of the reports of a job and of a sub-block: component and reason are the answer's (…-answer, …-number), there is none exactly where the
 -- call is accepted (…-none), and the numbers break the rule of the reason (…-breaks). Assumes nothing.
-use Prim.Native.Nat.{ℕ, _≤_, _<_}
+use Prim.Native.Nat.{ℕ}
 use native.Mathlib.Omega.{arith}
 use native.Mathlib.Nat.{le-refl}
 use mathlib.Core.Path.{_≡_, refl, sym, ap, _∙_}
 use mathlib.Core.Logic.{_↔_, inl, inr}
-use mathlib.Core.Bool.{Bool, true, false, cond, _&&_, _||_, true≢false, false≢true}
+use mathlib.Core.Bool.{Bool, true, false, cond, _&&_, _||_, false≢true}
 use mathlib.Core.List.{List, [], _∷_, _++_}
 use lib.Dec.{ltb}
 use borrow.Author.Tests.{ltb-true}
@@ -25,7 +25,7 @@ use Rattle.evc.specs.Jobs.{width, height, pitch, area, areaEnd, entriesA
 use Rattle.evc.specs.SubBlocks.{luma, chroma, isSome, lowest, overlap, given, subTests, orElse, subReply, subReport}
 use Rattle.evc.specs.Breaks.{Asked, alone, asked, Past, Shares, Breaks, Justified}
 use Rattle.evc.proofs.Tests.{number-some}
-use Rattle.evc.proofs.SubBlocks.{named-last}
+use Rattle.evc.proofs.SubBlocks.{named-last, none-some}
 
 -- ---- component and reason are the answer's
 report-reply : (ts : List Named) → reportReply (report ts) ≡ firstNamed ts
@@ -109,10 +109,6 @@ shares j k e = go (shared (area j) (area k)) refl e
               (λ t. let l = ascending-head p ps up r t in omega arith);
         }
 
-none-of : (l : List ℕ) → isSome l ≡ false → l ≡ []
-none-of [] e = refl
-none-of (p ∷ l) e = absurd (true≢false e)
-
 -- entry by entry: what it breaks where it is broken, and what comes after it where it is not
 module _ (n : ℕ) (ask : Component → Asked) where
   abbrev Sound : List Named → Type 0
@@ -177,7 +173,7 @@ module _ (n : ℕ) (s : SubBlock) where
     λ a. (
       λ e. rw (y, u) (inl (shares _ _ e)),
       λ b. (
-        λ e. rw (y, u) (inr (none-of _ b, inl (shares _ _ e))),
+        λ e. rw (y, u) (inr (none-some _ b, inl (shares _ _ e))),
         λ c. tt,
       ),
     ),

@@ -9,7 +9,7 @@ use mathlib.Core.List.{List, [], _∷_, _++_, append-nil, List·Memᴰ, List·Me
 use lib.ListN.{length}
 use lib.IntN.{ℤ}
 use Rattle.order.specs.Positions.{shared}
-use Rattle.order.specs.Jobs.{jobs, owns, Apart, Separate, Ended}
+use Rattle.order.specs.Jobs.{owns, Apart, Separate, Ended}
 use Rattle.order.proofs.OneJob.{apart-of-shared, separate-cons}
 use Rattle.order.proofs.AnyOrder.{separate-ended}
 use Rattle.evc.specs.declared.Job.{Job}
@@ -101,12 +101,12 @@ chroma-accepted n s c e =
     accept n (chroma s c)
     (accepted-as 2 7 (s .«log2_w») (s .«log2_h») n (chroma s c) (λ a b. (omega arith, omega arith)) (λ a b. (omega arith, omega arith)) (unbroken (chromaTests n s c) e))
 
+pub none-some : (l : List ℕ) → isSome l ≡ false → l ≡ []
+none-some [] e = refl
+none-some (p ∷ l) e = absurd (true≢false e)
+
 none-shared : (j k : Job) → first (overlap j k .test ∷ []) ≡ 0 → shared (area j) (area k) ≡ []
-none-shared j k e = go (shared (area j) (area k)) (unbroken (overlap j k .test ∷ []) e .0)
-  where
-    go : (l : List ℕ) → isSome l ≡ false → l ≡ []
-    go [] h = refl
-    go (x ∷ l) h = absurd (true≢false h)
+none-shared j k e = none-some (shared (area j) (area k)) (unbroken (overlap j k .test ∷ []) e .0)
 
 -- the members of the flagged list, one component at a time
 given-cases : (on : Bool) (j k : Job) (js : List Job) → List·Memᴰ k (given on (j ∷ []) ++ js) → ((on ≡ true) × (k ≡ j)) ⊎ List·Memᴰ k js

@@ -1,6 +1,6 @@
 -- The paper's numbers of the refusals, and what each verdict and each answer of the code says. Document 01, "Refusal numbers, in the order they are
 -- tested". Each reading is one-to-one: proofs/Readings.antt. Assumes nothing.
-use Prim.Native.Nat.{ℕ, zero, suc}
+use Prim.Native.Nat.{ℕ}
 use lib.IntN.{ℤ}
 use Rattle.evc.specs.declared.Component.{Component}
 use Rattle.evc.specs.declared.Refusal.{Refusal}

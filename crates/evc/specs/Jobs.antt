@@ -1,6 +1,6 @@
 -- The block job: dequantize an area of the buffer, stage one, stage two, back into the same area. Document 01, "Numbers of the domain"
 -- and "The two stages"; document 02, One. Assumes nothing.
-use Prim.Native.Nat.{ℕ, _+_, _*_, _^_}
+use Prim.Native.Nat.{ℕ, _^_}
 use mathlib.Core.List.{List, [], _∷_, map}
 use lib.Dec.{ltb}
 use lib.IntN.{ℤ, pos}

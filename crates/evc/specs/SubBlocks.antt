@@ -1,8 +1,8 @@
 -- The sub-block call: up to three jobs on one buffer, for those of Y, U and V that are flagged. Document 01, "Refusal numbers" and
 -- "Numbers of the domain"; document 02, One. Assumes nothing.
 use Prim.Native.Nat.{ℕ, zero, suc, _-_}
-use mathlib.Core.Bool.{Bool, true, false, cond, _&&_}
-use mathlib.Core.List.{List, [], _∷_, _++_, map}
+use mathlib.Core.Bool.{Bool, true, false, _&&_}
+use mathlib.Core.List.{List, [], _∷_, _++_}
 use lib.ListN.{length}
 use lib.IntN.{ℤ}
 use Rattle.order.specs.Positions.{shared}

@@ -15,7 +15,7 @@ use Rattle.order.proofs.Rows.{shared-row, shared-row-none}
 use Rattle.evc.specs.declared.Job.{Job}
 use Rattle.evc.specs.declared.Component.{Component}
 use Rattle.evc.specs.declared.Refusal.the-variants.{Overlap}
-use Rattle.evc.specs.declared.Report.the-variants.{None, Broken}
+use Rattle.evc.specs.declared.Report.the-variants.{Broken}
 use Rattle.evc.specs.Answers.{SubReply, refusedAt}
 use Rattle.evc.specs.Tests.{first, samplesOf}
 use Rattle.evc.specs.Reports.{Named, named, report}
@@ -26,10 +26,6 @@ use Rattle.job_tests.proofs.Areas.{area-run}
 some-or-none : (l : List ℕ) → (l ≡ [] → ⊥) → isSome l ≡ true
 some-or-none [] h = absurd (h refl)
 some-or-none (p ∷ l) h = refl
-
-none : (l : List ℕ) → isSome l ≡ false → l ≡ []
-none [] e = refl
-none (p ∷ l) e = absurd (true≢false e)
 
 -- a test that fails exactly where one run ends before the other begins
 module _ (a m b k : ℕ) (u : 1 ≤ m) (v : 1 ≤ k) where

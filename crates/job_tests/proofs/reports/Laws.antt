@@ -17,13 +17,13 @@ use Rattle.evc.specs.Tests.{outside}
 use Rattle.evc.specs.Reports.{Entry, tests, Named, named, report}
 use Rattle.evc.specs.Answers.{reportNumber}
 use Rattle.evc.specs.Tests.{first}
-use Rattle.evc.specs.Jobs.{areaEnd, entriesAs, jobEntries, jobReport, jobNumber}
+use Rattle.evc.specs.Jobs.{areaEnd, entriesAs, jobEntries, jobReport}
 use Rattle.evc.specs.SubBlocks.{luma, chroma, lumaEntries, chromaEntries, given, subReport}
-use Rattle.evc.proofs.Jobs as Jobs
 use Rattle.evc.proofs.Reports.{report-number}
 use Rattle.evc.proofs.SubBlocks.{luma-accepted, chroma-accepted}
 use Rattle.job_tests.specs.Pairs.{Sides, pairTests}
 use Rattle.job_tests.specs.Reports.{isReport}
+use Rattle.job_tests.proofs.sub_blocks.SubTests.{sides}
 
 module _ (who : Component) (lo hi w h n : ℕ) (j : Job) where
   abbrev all : Report
@@ -122,17 +122,14 @@ none-number : (c : Component) (on : Bool) (es : List Entry) → report (given on
 none-number c true es e t = sym (report-number c es) ∙ ap reportNumber e
 none-number c false es e t = absurd (false≢true t)
 
-sides-of : (n : ℕ) (j : Job) → jobNumber n j ≡ 0 → Sides j
-sides-of n j e = let a = Jobs.accepted n j e in record { w6 = a .w6; h6 = a .h6 }
-
 pub luma-sides : (n : ℕ) (s : SubBlock) {y : Job} {q : Report} {b : Bool}
     → y ≡ luma s (s .y) → q ≡ own Y 1 6 (s .y .flag) s n y → b ≡ isReport q → b ≡ false → s .y .flag ≡ true → Sides y
 luma-sides n s ey e eb h t =
     let z = none _ None e eb h in
-    rw ey (sides-of n (luma s (s .y)) (luma-accepted n s (s .y) (none-number Y (s .y .flag) (lumaEntries n s (s .y)) (rw ey at (sym e ∙ z)) t)))
+    rw ey (sides n (luma s (s .y)) true (luma-accepted n s (s .y) (none-number Y (s .y .flag) (lumaEntries n s (s .y)) (rw ey at (sym e ∙ z)) t)) refl)
 
 pub chroma-sides : (n : ℕ) (s : SubBlock) (c : Component) (p : Part) {u : Job} {q : Report} {b : Bool}
     → u ≡ chroma s p → q ≡ own c 2 7 (p .flag) s n u → b ≡ isReport q → b ≡ false → p .flag ≡ true → Sides u
 chroma-sides n s c p eu e eb h t =
     let z = none _ None e eb h in
-    rw eu (sides-of n (chroma s p) (chroma-accepted n s p (none-number c (p .flag) (chromaEntries n s p) (rw eu at (sym e ∙ z)) t)))
+    rw eu (sides n (chroma s p) true (chroma-accepted n s p (none-number c (p .flag) (chromaEntries n s p) (rw eu at (sym e ∙ z)) t)) refl)
