@@ -54,8 +54,9 @@ fn component_report(
     if 31 < job.it_shift {
         return Report::Broken(who, Refusal::Shift, job.it_shift as usize, 31);
     }
+    let start = job.start;
     if past_end(len, job) {
-        return Report::Broken(who, Refusal::Area, job.start, len);
+        return Report::Broken(who, Refusal::Area, start, len);
     }
     Report::None
 }

@@ -1,5 +1,4 @@
 -- `job_tests::reports::sub_block_report` meets its contract: each return by the components that passed before it. Assumes nothing.
-use Prim.Native.Nat.{ℕ, _-_, _≤_}
 use native.Mathlib.Omega.{arith}
 use mathlib.Core.Path.{_≡_, _∙_}
 use Rattle.evc.specs.declared.Job.{Job}
@@ -54,10 +53,6 @@ module _ (c : tie.After-chroma-job2) where
   whole : before of-y by-u ≡ subReport (start .args .len) call
   whole = sub-as (start .args .len) call (c .before .before .luma-job .ensures) (c .before .chroma-job .ensures) (c .chroma-job2 .ensures)
 
--- chroma's logs are one less than those handed in
-one-less : (x : ℕ) → x ≤ 7 → x - 1 ≤ 6
-one-less x h = omega arith
-
 flagged-report-requires : tie.Need-flagged-report-requires
 flagged-report-requires c κs = rw (c .before .before .luma-job .ensures) (λ h. h, λ h. h)
 
@@ -76,7 +71,7 @@ module _ (c : tie.Else1) where
   y-passed = passed (of-y jobs) (by-u jobs) (c .before .before .flagged-report .ensures) (c .before .is-report .ensures) (c .if1 .left) ∙ whole jobs
 
 flagged-report-requires-2 : tie.Need-flagged-report-requires-2
-flagged-report-requires-2 c κs = rw (jobs c .before .chroma-job .ensures) (one-less _, one-less _)
+flagged-report-requires-2 c κs = rw (jobs c .before .chroma-job .ensures) (λ h. omega arith, λ h. omega arith)
 
 returns-2 : tie.Need-returns-2
 returns-2 c =
@@ -94,7 +89,7 @@ module _ (c : tie.Else2) where
       passed (of-u (jobs y-at)) (by-v (jobs y-at)) (c .before .before .flagged-report2 .ensures) (c .before .is-report2 .ensures) (c .if2 .left) ∙ y-passed y-at
 
 flagged-report-requires-3 : tie.Need-flagged-report-requires-3
-flagged-report-requires-3 c κs = rw (jobs (y-at c) .chroma-job2 .ensures) (one-less _, one-less _)
+flagged-report-requires-3 c κs = rw (jobs (y-at c) .chroma-job2 .ensures) (λ h. omega arith, λ h. omega arith)
 
 returns-3 : tie.Need-returns-3
 returns-3 c =
