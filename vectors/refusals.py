@@ -1,6 +1,7 @@
 #!/usr/bin/env python3
-"""Which calls are refused, and with what: document 01's table of refusal numbers and its "Numbers of the domain", and document 02's request One, in exact
-integers. Written from these alone, without a look at the library, its definitions or the Rust.
+"""Which calls are refused, and with what: document 01's table of refusal numbers and its "Numbers of the domain", in exact integers. Written from these
+alone, without a look at the library, its definitions or the Rust. What a refused call reports is from document 02's request One, and is by the hand that
+wrote how `calls` says it.
   refusals.py < LINES     for each call the expected line where it is refused, and 'accepted' where it isn't"""
 import sys
 

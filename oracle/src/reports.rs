@@ -1,5 +1,6 @@
-// The expected reports: document 02, One, with document 01's order of the tests, and nothing else. Written without a look at the library or its
-// definitions. All arithmetic on starts, areas and lengths is exact, in u128.
+// The expected reports, from document 02, One, with document 01's order of the tests. Written without a look at the definitions (evc/specs) or at the code
+// that makes the reports (job_tests); the exports' contracts and the calls above that code were seen. All arithmetic on starts, areas and lengths is
+// exact, in u128.
 use crate::calls::*;
 use crate::exports::TvReport;
 
