@@ -1,5 +1,7 @@
 // Where the calls meet C: the record that a sub-block call takes, made of the numbers that C hands in; an answer as the paper's number, and what it
 // holds besides into a caller's place.
+#![tactic(auto)]
+
 mod answers;
 mod reports;
 mod sub_blocks;

@@ -7,7 +7,7 @@ use evc::Report;
 
 // All 0 where the call is accepted.
 #[repr(C)]
-#[derive(Drop)]
+#[derive(Clone, Copy)]
 pub struct TvReport {
     pub given: u64,
     pub limit: u64,

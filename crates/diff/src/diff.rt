@@ -40,7 +40,7 @@ fn diff_rows(
     out: &mut [i16],
 )
     requires tested { Tested w h a.now a_at a_stride b.now 0 w }
-    requires w_in_bounds { h * w ≤ length out.old }
+    requires room { h * w ≤ length out.old }
     ensures { out.new ≡ written (h * w) (diff_at w (apart_from a.now a_at a_stride b.now 0 w)) out.old }
 {
     for j in 0..h {
@@ -64,7 +64,7 @@ fn of_width(
     out: &mut [i16],
 ) -> Answer
     requires two_blocks { TwoBlocks w h (length a.now) a_at a_stride (length b.now) 0 w }
-    requires depth_bound { (depth ≤ 14) × (h * w ≤ length out.old) }
+    requires depth_and_room { (depth ≤ 14) × (h * w ≤ length out.old) }
     ensures { Differed w h (strided a.now a_at a_stride depth) (strided b.now 0 w depth) out.old (answer_number result) out.new }
 {
     let any = any_rows(a, a_at, a_stride, b, w, h);
@@ -86,7 +86,7 @@ fn of_four(
     out: &mut [i16],
 ) -> Answer
     requires two_blocks { TwoBlocks 4 h (length a.now) a_at a_stride (length b.now) 0 4 }
-    requires depth_bound { (depth ≤ 14) × (h * 4 ≤ length out.old) }
+    requires depth_and_room { (depth ≤ 14) × (h * 4 ≤ length out.old) }
     ensures { Differed 4 h (strided a.now a_at a_stride depth) (strided b.now 0 4 depth) out.old (answer_number result) out.new }
 {
     if h == 4 {
@@ -107,7 +107,7 @@ fn of_blocks(
     out: &mut [i16],
 ) -> Answer
     requires two_blocks { TwoBlocks w h (length a.now) a_at a_stride (length b.now) 0 w }
-    requires depth_bound { (depth ≤ 14) × (h * w ≤ length out.old) }
+    requires depth_and_room { (depth ≤ 14) × (h * w ≤ length out.old) }
     ensures { Differed w h (strided a.now a_at a_stride depth) (strided b.now 0 w depth) out.old (answer_number result) out.new }
 {
     match w {

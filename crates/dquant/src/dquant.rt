@@ -6,6 +6,7 @@ ghost use Rattle.evc.specs.Dequantizer.{dquant_number, dquant_exit};
 
 use evc::{Answer, Refusal};
 
+#[tactic(auto, using(crate::proofs::Refused::shift_number, crate::proofs::Refused::shift_exit))]
 pub fn evc_dquant(
     coef: &mut [i16],
     log2_w: usize,

@@ -1,10 +1,12 @@
 // What code and definitions share: the job, the sub-block, the components, the refusals and the answers.
 // Their readings, the paper's numbers and values, stand in specs/.
+#![tactic(auto)]
+
 ghost use Rattle.std.specs.Prelude.{◌≡◌};
 ghost use Rattle.evc.specs.Jobs.{job_of};
 
 // One block job: where its samples start in the buffer, the logarithms of its sides, and its numbers.
-#[derive(Drop)]
+#[derive(Clone, Copy)]
 pub struct Job {
     pub start: usize,
     pub log2_w: usize,
@@ -39,7 +41,7 @@ pub fn job_of(
 }
 
 // What a component of a sub-block has of its own.
-#[derive(Drop)]
+#[derive(Clone, Copy)]
 pub struct Part {
     pub flag: bool,
     pub start: usize,
@@ -47,7 +49,7 @@ pub struct Part {
 }
 
 // A sub-block call: luma's logarithms, the numbers that all components share, and the components.
-#[derive(Drop)]
+#[derive(Clone, Copy)]
 pub struct SubBlock {
     pub log2_w: usize,
     pub log2_h: usize,
@@ -59,7 +61,7 @@ pub struct SubBlock {
     pub v: Part,
 }
 
-#[derive(Drop)]
+#[derive(Clone, Copy)]
 pub enum Component {
     Y,
     U,
@@ -67,7 +69,7 @@ pub enum Component {
 }
 
 // Why a call is refused, in the order of the paper's numbers.
-#[derive(Drop)]
+#[derive(Clone, Copy)]
 pub enum Refusal {
     Size,
     Qp,
@@ -79,56 +81,56 @@ pub enum Refusal {
 }
 
 // What the tests of a call say, before anything is done: none is broken, or which refusal the first broken one gives.
-#[derive(Drop)]
+#[derive(Clone, Copy)]
 pub enum Verdict {
     Passed,
     Broken(Refusal),
 }
 
 // The same of a sub-block call: a broken test names its component.
-#[derive(Drop)]
+#[derive(Clone, Copy)]
 pub enum SubVerdict {
     Passed,
     Broken(Component, Refusal),
 }
 
 // The answer of a call that leaves its result in a buffer.
-#[derive(Drop)]
+#[derive(Clone, Copy)]
 pub enum Answer {
     Done,
     Refused(Refusal),
 }
 
 // The answer of a sub-block call: a refusal names its component.
-#[derive(Drop)]
+#[derive(Clone, Copy)]
 pub enum SubAnswer {
     Done,
     Refused(Component, Refusal),
 }
 
 // What a job or a sub-block that is refused tells of it: the component, why, the number that was handed in and the limit that it broke.
-#[derive(Drop)]
+#[derive(Clone, Copy)]
 pub enum Report {
     None,
     Broken(Component, Refusal, usize, usize),
 }
 
 // The scale of a qp.
-#[derive(Drop)]
+#[derive(Clone, Copy)]
 pub enum Scale {
     Value(i32),
     Refused(Refusal),
 }
 
 // A sum of absolute differences, or of absolute coefficients.
-#[derive(Drop)]
+#[derive(Clone, Copy)]
 pub enum Distortion {
     Value(u32),
     Refused(Refusal),
 }
 
 // A sum of squared differences.
-#[derive(Drop)]
+#[derive(Clone, Copy)]
 pub enum SquaredDistortion {
     Value(i64),
     Refused(Refusal),

@@ -1,5 +1,7 @@
 // Laws of whole numbers, sums and lists (specs/, proofs/), and the total helpers that every kernel uses. Each is a choice of values and
 // computes nothing else on the way: compilers turn a loop of such calls into vector code.
+#![tactic(auto)]
+
 ghost use Rattle.std.specs.Prelude.{◌≡◌, nat_abs};
 ghost use Rattle.integers.specs.Z as Z;
 

@@ -1,5 +1,7 @@
 // What the crates that do a stage share: its tests, which calls a crate takes, stage two's rounding number, and answers as values. The theory
 // of both stages, the sums of a line by halving and the lines of a buffer, has its definitions in specs/ and its laws in proofs/.
+#![tactic(auto)]
+
 mod answer;
 mod guard;
 mod round;

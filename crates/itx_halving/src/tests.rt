@@ -6,6 +6,7 @@ ghost use Rattle.evc.specs.Stages.{stage_one_number, stage_two_number};
 
 use evc::{Refusal, Verdict};
 
+#[tactic(auto, using(crate::proofs::tests::Laws::stage_tests))]
 pub fn stage_two(src: usize, dst: usize, log2_size: usize, log2_line: usize, shift: u8) -> Verdict
     ensures { verdict_number result ≡ stage_two_number src dst log2_size log2_line shift }
 {

@@ -1,4 +1,6 @@
 // The transform table as stored numbers, and its column sums.
+#![tactic(auto)]
+
 mod columns;
 mod tm;
 mod whole;

@@ -10,7 +10,7 @@ ghost use Rattle.itx_halving.specs.Straight.{Reach, Product, Odd, Line};
 ghost use Rattle.itxb0_small.specs.Sums.{narrow};
 
 // The sums of a line of 4, by value: they are read one by one.
-#[derive(Drop)]
+#[derive(Clone, Copy)]
 pub(crate) struct Four(pub i32, pub i32, pub i32, pub i32);
 
 // Input k of line j times the table's number in row k, column n.

@@ -10,10 +10,10 @@ ghost use Rattle.itx_halving.specs.Straight.{Reach, Product, Odd, Line};
 ghost use Rattle.itxb1_small.specs.Sums.{wide, most8, Raised};
 
 // The sums of a line of 2, and of 4, by value: they are read one by one.
-#[derive(Drop)]
+#[derive(Clone, Copy)]
 pub(crate) struct Two(pub i64, pub i64);
 
-#[derive(Drop)]
+#[derive(Clone, Copy)]
 pub(crate) struct Four(pub i64, pub i64, pub i64, pub i64);
 
 // Input k of line j times the table's number in row k, column n.

@@ -17,6 +17,7 @@ pub(crate) fn past_end(len: usize, job: Job) -> bool
 }
 
 // The tests of a job on a buffer of `len` samples.
+#[tactic(auto, using(crate::proofs::jobs::Laws::job_tests))]
 pub fn of_job(len: usize, job: Job) -> Verdict
     ensures { verdict_number result ≡ job_number len job }
 {

@@ -29,7 +29,7 @@ fn runs_meet(a: usize, m: usize, b: usize, k: usize) -> bool
 // Two jobs, both flagged, share a sample.
 fn meet(one: bool, j: Job, other: bool, k: Job) -> bool
     requires sides { one ≡ true → Sides j }
-    requires sides_2 { other ≡ true → Sides k }
+    requires other_sides { other ≡ true → Sides k }
     ensures { result ≡ one && other && is_some (shared (area j) (area k)) }
 {
     if one & other {

@@ -1,4 +1,6 @@
 // What the distortion calls test before they read a sample: sides, depth, and that all that is to be read lies inside its buffer.
+#![tactic(auto)]
+
 mod tests;
 
 pub use tests::{

@@ -1,6 +1,8 @@
 // The answer of a SAD by its sum and its marks, which the SADs of samples and of bi-prediction values share. Document 01, "Refusal numbers" and
 // "Distortion".
 // Differs from the Rust in: the Rust tests nothing; the total is divided once, by a depth that is an argument.
+#![tactic(auto)]
+
 ghost use Rattle.std.specs.Prelude.{◌≡◌, [], ◌∷◌, ◌-◌, ◌/◌, ◌^◌, leb};
 ghost use Rattle.evc.specs.Answers.{distortion_reading};
 ghost use Rattle.evc.specs.declared.Refusal.TheVariants as number;

@@ -1,5 +1,7 @@
 // What SATD decides of its tiles: their side, and a tile's number from the sizes of its coefficients. Document 01, "Distortion".
 // 64 bits hold the sum of any sizes, so that every call has its answer.
+#![tactic(auto)]
+
 ghost use Rattle.std.specs.Prelude.{◌≡◌, ◌+◌, ◌/◌, ◌≤◌};
 ghost use Rattle.evc.specs.Tiles as of;
 

@@ -1,4 +1,6 @@
 // The tiles of SATD, each a total function of its block of differences: 8 by 8, 4 by 4, 2 by 2.
+#![tactic(auto)]
+
 mod had_2x2;
 mod had_4x4;
 mod had_8x8;

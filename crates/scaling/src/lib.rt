@@ -1,11 +1,14 @@
 // The scale of a qp, after the Rust's `evc_tbl_dq_scale_b[qp % 6] << (qp / 6)`. Document 01, "Scale and dequantization".
 // Differs from the Rust in: a qp above 63 is refused.
+#![tactic(auto)]
+
 ghost use Rattle.std.specs.Prelude.{◌≡◌, pos};
 ghost use Rattle.evc.specs.Answers.{scale_reading, value_or};
 ghost use Rattle.evc.specs.Dequantizer.{scale_reply};
 
 use evc::{Refusal, Scale};
 
+#[tactic(auto, using(crate::proofs::Scales::qp_refused))]
 pub fn scale(qp: u8) -> Scale
     ensures { scale_reading result ≡ scale_reply qp }
 {

@@ -35,7 +35,7 @@ fn edge_rows(
     depth: u8,
 ) -> Totals
     requires edges_in { EdgesIn (length one.now) stride1 x y w h }
-    requires edges_in_2 { EdgesIn (length two.now) stride2 x y w h }
+    requires second_edges_in { EdgesIn (length two.now) stride2 x y w h }
     requires le_depth { (8 ≤ depth) × (depth ≤ 14) }
     ensures { BlocksTotalled (64 * (64 * 65535)) (squared_low depth) bit_or w h (edge_cell one.now stride1 x y) (edge_cell two.now stride2 x y) result.sum result.any }
 {
@@ -65,7 +65,7 @@ pub(crate) fn total(
     depth: u8,
 ) -> Totals
     requires edges_in { EdgesIn (length one.now) stride1 x y w h }
-    requires edges_in_2 { EdgesIn (length two.now) stride2 x y w h }
+    requires second_edges_in { EdgesIn (length two.now) stride2 x y w h }
     requires le_depth { (8 ≤ depth) × (depth ≤ 14) }
     ensures { BlocksTotalled (64 * (64 * 65535)) (squared_low depth) bit_or w h (edge_cell one.now stride1 x y) (edge_cell two.now stride2 x y) result.sum result.any }
 {

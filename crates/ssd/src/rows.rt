@@ -29,8 +29,8 @@ fn square(p: u16, q: u16) -> u32
 // What two samples that were cut add: the square, divided by 2^shift, which has 16 bits. Where a row has four samples, the code says so, and
 // compilers add the rows of a block of four by four in one vector.
 fn share(p: u16, q: u16, shift: u8, w: usize) -> u32
-    requires p_bound { (p < 16384) × (q < 16384) × (shift < 32) }
-    requires q_bound { squared shift p q ≤ 65535 }
+    requires numbers { (p < 16384) × (q < 16384) × (shift < 32) }
+    requires square_fits { squared shift p q ≤ 65535 }
     ensures { result ≡ squared shift p q }
 {
     let s = square(p, q) >> shift;

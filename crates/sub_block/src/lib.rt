@@ -2,6 +2,8 @@
 // of the domain".
 // Differs from the Rust in: each component brings its own start; all tests of all flagged components are made first, and a refused call has
 // written nothing; a flagged component is a block job, not a call on the buffer's tail; offset and shifts are given, and shared.
+#![tactic(auto)]
+
 ghost use Rattle.std.specs.Prelude.{◌≡◌, true, [], ◌∷◌, length};
 ghost use Rattle.order.specs.Jobs.{jobs};
 ghost use Rattle.evc.specs.Answers.{sub_reading};
