@@ -60,7 +60,7 @@ def snake(name):
 def files(top, patterns):
     for p in patterns:
         for f in sorted(glob.glob(os.path.join(top, p), recursive=True)):
-            if "/out/" not in f and os.path.basename(f) not in ("port_names.py", "PORT.md"):
+            if not re.search(r"/crates/[^/]*/out/", "/" + os.path.normpath(f)) and os.path.basename(f) not in ("port_names.py", "PORT.md"):
                 yield f
 
 
