@@ -12,7 +12,7 @@ use lib.Dec.{T}
 use lib.IntN.{ℤ, pos}
 use lib.ListN.{get_or}
 use lib.Pow.{pow-lt, pow_pos}
-use lib.Signed.{◌≤ℤ◌, ◌<ℤ◌, mag, lt_z, le_z, lt_z_yes, lt_z_no, le_z_yes}
+use lib.Signed.{◌≤ℤ◌, ◌<ℤ◌, mag, lt_z, lt_z_yes, lt_z_no}
 use mir.Syntax.{Width}
 use mir.Val.{Val, to_z, of_z, bits, hbits}
 use mir.Facts.{to_z-of_z}

@@ -10,7 +10,7 @@ use lib.IntN.{ℤ, pos, negsuc, ◌+ℤ◌, ◌-ℤ◌, ◌*ℤ◌, neg_ℤ, nat
 use lib.Signed.{mag, shr_z, mag_shr, nat_abs-le}
 use mir.Syntax.{Width}
 use mir.Val.{SFits, hbits}
-use Rattle.integers.proofs.Dif.{dif, up, dn, of, of-pos, dif-part, dif-eq, difs, dif-add}
+use Rattle.integers.proofs.Dif.{dif, up, dn, of, dif-part, dif-add}
 use Rattle.integers.proofs.Order.{abs-parts}
 
 pub record Within (n : ℕ) (z : ℤ) : Type 0 where

@@ -1,7 +1,7 @@
 -- `floor_pow z k` is the floor of z / 2^k: the one q with q · 2^k ≤ z < (q + 1) · 2^k. The machine's `>>` is stated by the same `shr_z`.
 -- First, of any divisor m, that `shr_z` lies there, and that two such are in order; then the laws of the floor: where it lies, that it is
 -- the only one, that it grows with z, and that whole multiples come out. Assumes nothing.
-use mathlib.Core.Path.{◌≡◌, sym}
+use mathlib.Core.Path.{◌≡◌}
 use Prim.Native.Nat.{ℕ, suc, ◌+◌, ◌*◌, ◌/◌, ◌%◌, ◌<◌, ◌^◌}
 use native.Mathlib.Omega.{arith}
 use native.Mathlib.Nat.{div-add-mod', mod-lt, lt_of_mul-lt-mul_right}
@@ -10,7 +10,7 @@ use lib.IntN.{ℤ, pos, negsuc, ◌+ℤ◌, ◌*ℤ◌}
 use lib.Signed.{◌≤ℤ◌, ◌<ℤ◌, shr_z}
 use Rattle.integers.specs.Z.{floor_pow}
 use Rattle.integers.proofs.Dif.{dif, up, dn, of, of-pos, difs}
-use Rattle.integers.proofs.Order.{nat-≤, ≤ℤ-trans, ≤ℤ-antisym, dif-≤, dif-<, ≤-dif, <-dif}
+use Rattle.integers.proofs.Order.{nat-≤, ≤ℤ-antisym, dif-≤, dif-<, ≤-dif, <-dif}
 
 below : (z : ℤ) (m : ℕ) → 0 < m → (shr_z z m *ℤ pos m) ≤ℤ z
 below (pos a) m h = let e = div-add-mod' a m in simp difs (dif-≤ _ _ _ _ (omega arith))
