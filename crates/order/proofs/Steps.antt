@@ -51,6 +51,7 @@ module _ {A J : Type 0} (w : Kind A J) (n : ℕ) where
   -- of separate jobs each accepted one leaves its block's work on its first samples
   pub jobs-done : Lawful w → (js : List J) → Separate w n js → (b : List A) → length b ≡ n → (j : J) → Memᴰ j js → w.number n j ≡ 0
       → samples w j (jobs w js b) ≡ w.block j (samples w j b)
+  jobs-done l [] _ b e j m z = elim m [ ]
   jobs-done l (k ∷ js) (Pairwise.cons h s) b e j (Memᴰ.head q) z =
       rw q
       (jobs-apart js (after w k b) (length-after w b k ∙ e) k (rw q at z) (λ i m. h i ∣ m ∣₁)
