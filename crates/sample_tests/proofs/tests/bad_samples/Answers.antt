@@ -5,15 +5,13 @@ use Prim.Native.Nat.{ℕ, ◌/◌, ◌^◌, ◌≤◌}
 use native.Mathlib.Omega.{arith}
 use lib.Dec.{eqb, leb}
 use lib.Pow.{pow_mono}
-use borrow.Author.Rules.{rules}
 use borrow.Author.Tests.{eqb-true, eqb-false, le-leb, lt-leb}
 use Rattle.integers.proofs.Bits.{div-some, div-none}
-use Rattle.sample_tests.proofs.tests.bad_samples.Statement.{statement}
-use Rattle.sample_tests.proofs.tests.bad_samples.Tie as tie
+use Rattle.sample_tests.proofs.tests.bad_samples.Goals as goal
 
-returns : tie.Need-returns
-returns c =
-    let a = c.before.args in
+pub returns-then-depth-gt15 : goal.returns-then-depth-gt15
+returns-then-depth-gt15 c =
+    let a = c.args in
     let h : 16 ≤ a.depth = omega arith in
     let p : 2 ^ 16 ≤ 2 ^ a.depth = pow_mono h in
     sym (lt-leb (2 ^ a.depth) a.any (omega arith))
@@ -26,8 +24,5 @@ reached n k = go (eqb (n / 2 ^ k) 0) refl
     go true e = sym (lt-leb (2 ^ k) n (div-none n k (eqb-true (n / 2 ^ k) 0 e)))
     go false e = sym (le-leb (2 ^ k) n (div-some n k (eqb-false (n / 2 ^ k) 0 e)))
 
-returns-2 : tie.Need-returns-2
-returns-2 c = reached c.before.args.any c.before.args.depth
-
-pub bad-samples-spec : {M : Type 1} → statement M
-bad-samples-spec = tie.close (tie.spec returns (λ c. search rules) returns-2)
+pub returns : goal.returns
+returns c = reached c.args.any c.args.depth
