@@ -13,7 +13,7 @@ use Rattle.order.specs.Jobs.{Lawful}
 use Rattle.order.proofs.Rows.{rows-distinct, rows-below, reach-packed}
 use Rattle.evc.specs.declared.Job.{Job}
 use Rattle.evc.specs.Reports.{tests}
-use Rattle.evc.specs.Jobs.{width, height, pitch, area, area_end, entries_as, tests_of_job, job_number, block, block_jobs}
+use Rattle.evc.specs.Jobs.{width, height, pitch, area_end, entries_as, tests_of_job, job_number, block, block_jobs}
 use Rattle.evc.proofs.Tests.{Unbroken, unbroken, first-none, outside-no, inside-no}
 
 pub length-block : (j : Job) (l : List ℤ) → length (block j l) ≡ length l

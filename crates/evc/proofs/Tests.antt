@@ -3,7 +3,7 @@
 -- Assumes nothing.
 use Prim.Native.Nat.{ℕ, zero, suc, ◌≤◌}
 use native.Mathlib.Omega.{arith}
-use mathlib.Core.Path.{◌≡◌, refl, sym, ap}
+use mathlib.Core.Path.{◌≡◌, refl, sym}
 use mathlib.Core.Bool.{Bool, true, false, cond}
 use mathlib.Core.List.{List, [], ◌∷◌}
 use lib.Dec.{ltb}
@@ -12,7 +12,7 @@ use Rattle.order.specs.Jobs.{if_accepted}
 use Rattle.integers.proofs.Bools.{or-neither}
 use Rattle.evc.specs.declared.Refusal.{Refusal}
 use Rattle.evc.specs.declared.Refusal.TheVariants.{Size, Qp, Shift, Depth, Area, Overlap, Sample}
-use Rattle.evc.specs.Answers.{number, value, refused, reply_number}
+use Rattle.evc.specs.Answers.{number, reply_number}
 use Rattle.evc.specs.Tests.{Test, first, reply, outside}
 
 -- no test of the list is broken, test by test

@@ -1,9 +1,9 @@
 -- Document 01's numbers to meet, 1 to 9, as one table of cases about the definitions. proofs/Numbers.antt proves it; number 10 is run.
 -- Assumes nothing.
-use Rattle.std.specs.Prelude.{ℕ, ◌≡◌, List, [], ◌∷◌, replicate, ℤ, pos, neg_ℤ}
+use Rattle.std.specs.Prelude.{ℕ, ◌≡◌, [], ◌∷◌, replicate, ℤ, pos, neg_ℤ}
 use Rattle.evc.specs.declared.Job.{Job}
 use Rattle.evc.specs.Answers.{Reply, value, refused}
-use Rattle.evc.specs.Planes.{Plane, packed}
+use Rattle.evc.specs.Planes.{packed}
 use Rattle.evc.specs.Dequantizer.{scale_reply, dequantized}
 use Rattle.evc.specs.Stages.{itxb0_exit, itxb1_exit}
 use Rattle.evc.specs.Jobs.{job_of, job_number, job_exit}

@@ -45,7 +45,7 @@ stage_one_tests n m logn logl = stage_sizes logn logl ++ stage_areas n m logn lo
 unfoldable pub stage_one_number : ℕ → ℕ → ℕ → ℕ → ℕ
 stage_one_number n m logn logl = first (stage_one_tests n m logn logl)
 
--- the output at the end: its first N-as-L places written, the rest as it was
+-- the output at the end: its first N·L places written, the rest as it was
 unfoldable pub stage_one_exit : (ℕ → ℕ → ℤ) → ℕ → ℕ → List ℤ → List ℤ → List ℤ
 stage_one_exit T logn logl x out =
     if_accepted (stage_one_number (length x) (length out) logn logl) (written (samples_of logn logl) (stage_one_at T (2 ^ logn) (2 ^ logl) x) out) out

@@ -1,5 +1,5 @@
 -- Block jobs of several theatres: each is handed in with the theatre that it comes from, a value of any type Θ. Assumes nothing.
-use Rattle.std.specs.Prelude.{◌≡◌, ℤ}
+use Rattle.std.specs.Prelude.{ℤ}
 use Rattle.order.specs.Jobs.{Kind}
 use Rattle.order.specs.Theatres.{carrying}
 use Rattle.evc.specs.declared.Job.{Job}
