@@ -4,12 +4,8 @@ use Rattle.integers.specs.Sum.{sum}
 use Rattle.evc.specs.Table.{tm64}
 use Rattle.itx_table.specs.Columns.{column}
 use Rattle.itx_table.proofs.ColumnSums.{right, columns-right}
-use Rattle.itx_table.proofs.columns.columns32.Statement.{statement}
-use Rattle.itx_table.proofs.columns.columns32.Tie as tie
+use Rattle.itx_table.proofs.columns.columns32.Goals as goal
 
-returns : tie.Need-returns
+pub returns : goal.returns
 unfolding right column sum tm64
 returns c = columns-right 32 _ refl tt
-
-pub columns32-spec : {M : Type 1} → statement M
-columns32-spec = tie.close (tie.spec returns)
