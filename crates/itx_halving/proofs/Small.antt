@@ -1,7 +1,7 @@
 -- Small sizes by straight code, once over the width v of the locals and the size A of a product, where v has room for eight products: a line of 2, the
 -- odd inputs' share of a place in a line of 8, and a line of 4 from its even half. Of each: the numbers that the code forms, that each fits, and that
 -- they are what they should be. Assumes nothing.
-use mathlib.Core.Path.{◌≡◌, refl, sym, ◌∙◌, subst}
+use mathlib.Core.Path.{◌≡◌, refl, ◌∙◌, subst}
 use mathlib.Core.Bool.{Bool, true, false}
 use mathlib.Core.List.{List, [], ◌∷◌}
 use Prim.Native.Nat.{ℕ, zero, suc, ◌+◌, ◌*◌, ◌-◌, ◌^◌, ◌≤◌, ◌<◌}
@@ -13,7 +13,7 @@ use lib.IntN.{ℤ, pos, ◌+ℤ◌, ◌-ℤ◌, nat_abs}
 use mir.Syntax.{Width}
 use mir.Val.{SFits, hbits, to_z, of_z}
 use Rattle.integers.proofs.Every.{both}
-use Rattle.integers.proofs.Expr.{Ex, var, add, sub, loc, Known, small, env, val, exacts, within, reads, fit}
+use Rattle.integers.proofs.Expr.{Ex, var, add, sub, loc, Known, small, env, within, reads, fit}
 use Rattle.evc.specs.Stages.{product}
 use Rattle.itx_table.specs.Mirror.{Mirrored}
 use Rattle.itx_halving.specs.Line.{rows}

@@ -35,3 +35,6 @@ module _ (n m logn logl shift : ℕ) where
           go true t f = refl
           go false true f = refl
           go false false f = absurd (true≢false f)
+
+-- what a stage answers where its size or its shift is refused, for the check to find by itself
+pub ruleset stage_tests = (stage-size, stage-shift)

@@ -1,5 +1,4 @@
 -- `itx_halving::round::rounding` meets its contract: one test over the 32 shifts. Assumes nothing.
-use borrow.Author.Rules.{rules}
 use mathlib.Core.Bool.{Bool}
 use Prim.Native.Nat.{ℕ, ◌*◌, ◌^◌, ◌%◌, ◌<◌}
 use native.Mathlib.Omega.{arith}
@@ -10,8 +9,7 @@ use mir.Syntax.{w64}
 use mir.Val.{to_z, of_z}
 use Rattle.integers.proofs.Every.{below, below_at, eq_z, eq_z→eq}
 use Rattle.evc.specs.Stages.{rounding}
-use Rattle.itx_halving.proofs.round.rounding.Statement.{statement}
-use Rattle.itx_halving.proofs.round.rounding.Tie as tie
+use Rattle.itx_halving.proofs.round.rounding.Goals as goal
 
 -- the bits of the code's number, as they are read, are the rounding number
 right : ℕ → Bool
@@ -21,12 +19,9 @@ all_right : T (below right 32)
 unfolding right
 all_right = tt
 
-shl-result : tie.Need-overflow-shl-result
-shl-result c = let h : c.args.shift % 32 < 32 = mod-lt c.args.shift (omega arith) in omega arith
+pub overflow_shl-result : goal.overflow_shl-result
+overflow_shl-result c = let h : c.args.shift % 32 < 32 = mod-lt c.args.shift (omega arith) in omega arith
 
-returns : tie.Need-returns
+pub returns : goal.returns
 unfolding right
 returns c = eq_z→eq _ _ (below_at right 32 all_right (c.args.shift % 32) (mod-lt c.args.shift (omega arith)))
-
-pub rounding-spec : {M : Type 1} → statement M
-rounding-spec = tie.close (tie.spec (λ c. search rules) shl-result returns)
