@@ -42,3 +42,6 @@ module _ (n : ℕ) (j : Job) where
 
           pub job-none : r ≡ false → 0 ≡ job_number n j
           job-none t = rw (sym e ∙ t) at passed
+
+-- what a job answers, for the check to find by itself
+pub ruleset job_tests = (job-size, job-qp, job-shift, job-area, job-none)

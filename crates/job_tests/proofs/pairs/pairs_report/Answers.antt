@@ -1,0 +1,67 @@
+-- `job_tests::pairs::pairs_report` meets its contract: each return by the pairs that led there. Assumes nothing.
+use mathlib.Core.Path.{◌≡◌, ap, ◌∙◌}
+use mathlib.Core.Bool.{◌&&◌}
+use mathlib.Core.List.{List, [], ◌∷◌, ◌++◌, append-nil}
+use Rattle.evc.specs.declared.Component.TheVariants.{U, «V»}
+use Rattle.evc.specs.Reports.{Named, named, report}
+use Rattle.evc.specs.SubBlocks.{overlap, given}
+use Rattle.job_tests.specs.Pairs.{pair_tests}
+use Rattle.job_tests.proofs.pairs.Overlaps.{report-here, report-rest}
+use Rattle.job_tests.proofs.pairs.pairs_report.Goals.{Else-meet, Else-meet-2}
+use Rattle.job_tests.proofs.pairs.pairs_report.Goals as goal
+
+pub meet-requires : goal.meet-requires
+meet-requires c =
+    record { sides = c.requires.y-sides; other_sides = c.requires.u-sides }
+
+pub returns-then-meet : goal.returns-then-meet
+returns-then-meet c =
+    let a = c.args in
+    report-here U (a.call.y.flag && a.call.u.flag) a.y a.u _ c.meet.ensures _ c.later-at.ensures c.if-meet.true
+
+-- ---- where Y and U do not share a sample
+module _ (c : Else-meet) where
+  abbrev last : List Named
+  last = given (c.args.call.u.flag && c.args.call.v.flag) (named «V» (overlap c.args.u c.args.v ∷ []))
+
+  abbrev later : List Named
+  later = given (c.args.call.y.flag && c.args.call.v.flag) (named «V» (overlap c.args.y c.args.v ∷ [])) ++ last
+
+  yu-apart : report later ≡ report (pair_tests c.args.call c.args.y c.args.u c.args.v)
+  yu-apart =
+      let a = c.args in
+      report-rest U (a.call.y.flag && a.call.u.flag) a.y a.u later c.meet.ensures c.if-meet.false
+
+pub meet-requires-2 : goal.meet-requires-2
+meet-requires-2 c = let p = c.requires in
+    record { sides = p.y-sides; other_sides = p.v-sides }
+
+pub returns-then-meet-2 : goal.returns-then-meet-2
+returns-then-meet-2 c =
+    let a = c.args in
+    report-here «V» (a.call.y.flag && a.call.v.flag) a.y a.v (last (goal.at.returns-then-meet-2 c).Else-meet) c.meet-2.ensures _ c.later-at-then-meet-2.ensures c.if-meet-2.true
+    ∙ yu-apart (goal.at.returns-then-meet-2 c).Else-meet
+
+-- ---- nor Y and V
+module _ (c : Else-meet-2) where
+  yv-apart : report (last (goal.at.meet-requires-3 c).Else-meet)
+      ≡ report (pair_tests c.args.call c.args.y c.args.u c.args.v)
+  yv-apart =
+      let a = c.args in
+      report-rest «V» (a.call.y.flag && a.call.v.flag) a.y a.v (last (goal.at.meet-requires-3 c).Else-meet) c.meet-2.ensures c.if-meet-2.false ∙ yu-apart (goal.at.meet-requires-3 c).Else-meet
+
+pub meet-requires-3 : goal.meet-requires-3
+meet-requires-3 c = let p = c.requires in
+    record { sides = p.u-sides; other_sides = p.v-sides }
+
+pub returns-then-meet-3 : goal.returns-then-meet-3
+returns-then-meet-3 c =
+    let a = c.args in
+    report-here «V» (a.call.u.flag && a.call.v.flag) a.u a.v [] c.meet-3.ensures _ c.later-at-then-meet-3.ensures c.if-meet-3.true
+    ∙ ap report (append-nil (last (goal.at.returns-then-meet-3 c).Else-meet)) ∙ yv-apart (goal.at.returns-then-meet-3 c).Else-meet-2
+
+pub returns : goal.returns
+returns c =
+    let a = c.args in
+    report-rest «V» (a.call.u.flag && a.call.v.flag) a.u a.v [] c.meet-3.ensures c.if-meet-3.false
+    ∙ ap report (append-nil (last (goal.at.returns c).Else-meet)) ∙ yv-apart (goal.at.returns c).Else-meet-2
