@@ -3,11 +3,7 @@ use borrow.Author.Rules.{rules}
 use mathlib.Core.Path.{refl}
 use lib.Dec.{lit<, lit≤}
 use Rattle.itx_lanes.proofs.Passes.{sums-are}
-use Rattle.itx_lanes.proofs.sums.sums32.Statement.{statement}
-use Rattle.itx_lanes.proofs.sums.sums32.Tie as tie
+use Rattle.itx_lanes.proofs.sums.sums32.Goals as goal
 
-returns : tie.Need-returns
+pub returns : goal.returns
 returns c = sums-are 32 refl (lit< tt) (lit≤ tt) _ _ (search rules) c.level16.ensures
-
-pub sums32-spec : {M : Type 1} → statement M
-sums32-spec = tie.close (tie.spec (λ c κs. search rules) (λ c κs. search rules) (λ c κs. search rules) returns)

@@ -1,0 +1,11 @@
+-- `itx_lanes::level16::rows16_0` meets its contract: lane after lane. Written by tools/lanes.py.
+-- Assumes nothing.
+use Prim.Native.Nat.{◌-◌}
+use Rattle.itx_lanes.proofs.Passes.{Places, Passed}
+use Rattle.itx_lanes.proofs.level16.rows16_0.Given as goal
+
+abbrev pub invariant-loop-j : goal.invariant-loop-j
+invariant-loop-j l = Passed (Places l.s 16 0 4) (Places l.s 16 16 2) l.initial.e l.e l.j
+
+abbrev pub decreases-loop-j : goal.decreases-loop-j
+decreases-loop-j l = 16 - l.j
