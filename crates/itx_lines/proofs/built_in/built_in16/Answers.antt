@@ -1,0 +1,11 @@
+-- `itx_lines::built_in::built_in16` meets its contract: document 01's table is an instance. Assumes nothing.
+use native.Mathlib.Omega.{arith}
+use Rattle.itx_halving.proofs.Instance.{built-in-table, built-in-sums}
+use Rattle.itx_lines.proofs.built_in.built_in16.Goals as goal
+
+pub line16-requires : goal.line16-requires
+line16-requires c =
+    ((built-in-table 4 (omega arith) _ c.table-t.ensures, c.requires.0), c.requires.1)
+
+pub returns : goal.returns
+returns c = built-in-sums 4 (omega arith) _ c.table-t.ensures c.line16.ensures

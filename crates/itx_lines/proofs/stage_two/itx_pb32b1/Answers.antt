@@ -1,0 +1,52 @@
+-- `itx_lines::stage_two::itx_pb32b1` meets its contract: line after line, each gathered, summed, stored. Assumes nothing.
+use mathlib.Core.Path.{refl, sym}
+use native.Mathlib.Omega.{arith}
+use mir.Facts.{to_z-of_z}
+use Rattle.evc.specs.Table.{tm}
+use Rattle.evc.specs.Stages.{stage_two_at}
+use Rattle.itx_halving.specs.Lines.{shifted}
+use Rattle.itx_halving.proofs.Lines.{inputs, lined, upto-none, upto-room, upto-more, upto_all}
+use Rattle.itx_halving.proofs.Instance.{built-in-bounded}
+use Rattle.itx_lines.proofs.stage_two.itx_pb32b1.Goals as goal
+
+pub loop-j-init : goal.loop-j-init
+loop-j-init c = upto-none c.requires.1.dst-room
+
+pub slice_bounds-gather_i32-end : goal.slice_bounds-gather_i32-end
+slice_bounds-gather_i32-end c = refl
+
+pub gather_i32-requires : goal.gather_i32-requires
+gather_i32-requires c = (refl, (c.loop-j-test.true, c.requires.1.src-room))
+
+pub slice_bounds-built_in32-end : goal.slice_bounds-built_in32-end
+slice_bounds-built_in32-end c = refl
+
+pub built_in32-requires : goal.built_in32-requires
+built_in32-requires c = (inputs c.gather_i32.ensures (omega arith), refl)
+
+pub slice_bounds-store_i16-end : goal.slice_bounds-store_i16-end
+slice_bounds-store_i16-end c = sym c.built_in32.ensures.long
+
+pub store_i16-requires : goal.store_i16-requires
+store_i16-requires c = (
+  (rw (to_z-of_z c.ranges.add) c.requires.0, built-in-bounded 32 (inputs c.gather_i32.ensures (omega arith)) c.built_in32.ensures),
+  (omega (arith, c.built_in32.ensures.long), upto-room c.loop-j.invariant c.loop-j-test.true),
+)
+
+pub overflow_step-j : goal.overflow_step-j
+overflow_step-j c = omega (arith, c.loop-j-test.true)
+
+pub loop-j-smaller : goal.loop-j-smaller
+loop-j-smaller c = omega (arith, c.loop-j-test.true)
+
+pub loop-j-preserved : goal.loop-j-preserved
+unfolding stage_two_at
+loop-j-preserved c =
+    upto-more c.loop-j.invariant c.loop-j-test.true
+    (lined (shifted c.args.shift) (tm 32) 32 _ _ _ c.gather_i32.ensures c.built_in32.ensures c.store_i16.ensures)
+
+pub shape_of-dst : goal.shape_of-dst
+shape_of-dst c = c.loop-j.invariant.long
+
+pub returns : goal.returns
+returns c = upto_all c.loop-j.invariant c.loop-j-test.false
