@@ -7,7 +7,7 @@ use Rattle.evc.specs.declared.Component.{Component}
 use Rattle.evc.specs.declared.Component.TheVariants.{Y, U, «V»}
 use Rattle.evc.specs.declared.Report.{Report}
 use Rattle.evc.specs.declared.Report.TheVariants.{None, Broken}
-use Rattle.evc.specs.Answers.{Reply, SubReply, number}
+use Rattle.evc.specs.Answers.{Reply, SubReply}
 use Rattle.evc.proofs.Tests.{number-some}
 use Rattle.evc.proofs.Readings.{number-one}
 use Rattle.boundary.specs.declared.reports.TvReport.{TvReport}
