@@ -1,10 +1,10 @@
 -- A difference of two numbers of 16 bits as 16 bits hold it: what each of its three cases is, and that it fits. Assumes nothing.
 use mathlib.Core.Path.{◌≡◌, refl, sym}
-use mathlib.Core.Bool.{Bool, true, false}
-use Prim.Native.Nat.{ℕ, ◌≤◌}
+use mathlib.Core.Bool.{true, false}
+use Prim.Native.Nat.{◌≤◌}
 use native.Mathlib.Omega.{arith}
 use lib.IntN.{ℤ, pos, negsuc, nat_abs, ◌+ℤ◌, ◌-ℤ◌}
-use lib.Signed.{lt_z, ◌≤ℤ◌, ◌<ℤ◌}
+use lib.Signed.{lt_z, ◌≤ℤ◌}
 use borrow.Author.Tests.{le-ltb}
 use mir.Syntax.{w16}
 use mir.Val.{SFits}
