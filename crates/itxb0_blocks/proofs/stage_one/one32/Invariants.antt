@@ -1,0 +1,13 @@
+-- `itxb0_blocks::stage_one::one32` meets its contract: gathered, summed, and stored line after line. Assumes nothing.
+use Prim.Native.Nat.{◌+◌, ◌*◌, ◌-◌}
+use lib.ListN.{get_or}
+use lib.IntN.{pos}
+use Rattle.integers.specs.Z.{clip32}
+use Rattle.itx_halving.proofs.Places.{Lanes}
+use Rattle.itxb0_blocks.proofs.stage_one.one32.Given as goal
+
+abbrev pub invariant-loop-j : goal.invariant-loop-j
+invariant-loop-j l = Lanes (λ j k. clip32 (get_or l.e (k * 16 + j) (pos 0))) 32 l.j0 l.initial.dst l.dst l.j
+
+abbrev pub decreases-loop-j : goal.decreases-loop-j
+decreases-loop-j l = 16 - l.j
