@@ -8,10 +8,10 @@ use mir.Facts.{to_z-of_z}
 use Rattle.integers.proofs.Bound.{within-sfits, sfits-within}
 use Rattle.itxb1_blocks.specs.Halves.{upper, rest}
 use Rattle.itxb1_blocks.proofs.Parts.{upper_fits, scaled_fits, residue-fits, rest-fits, shifted}
-use Rattle.itxb1_blocks.proofs.halves.low.Statement.{statement}
-use Rattle.itxb1_blocks.proofs.halves.low.Tie as tie
+use Rattle.itxb1_blocks.proofs.halves.low.Goals.{Start}
+use Rattle.itxb1_blocks.proofs.halves.low.Goals as goal
 
-module _ (c : tie.Start) where
+module _ (c : Start) where
   abbrev x : ℤ
   x = c.args.v
 
@@ -41,20 +41,17 @@ module _ (c : tie.Start) where
   lowered : to_z w32 (of_z w32 (left -ℤ pos 32768)) ≡ rest x
   lowered = ap (λ (z : ℤ). to_z w32 (of_z w32 z)) less ∙ to_z-of_z low_fits
 
-mul-result : tie.Need-overflow-mul-result
-mul-result c = subst (SFits w32) (sym (ap (λ (z : ℤ). z *ℤ pos 65536) (shifted (x c) c.ranges.v))) (scaled_fits (upper (x c)) (upper_fits (x c) c.ranges.v))
+pub overflow_mul-result : goal.overflow_mul-result
+overflow_mul-result c = subst (SFits w32) (sym (ap (λ (z : ℤ). z *ℤ pos 65536) (shifted (x c) c.ranges.v))) (scaled_fits (upper (x c)) (upper_fits (x c) c.ranges.v))
 
-sub-result : tie.Need-overflow-sub-result
-sub-result c = subst (SFits w32) (sym (ap₂ ◌-ℤ◌ (to_z-of_z c.ranges.v) (scaled c))) (residue-fits (x c))
+pub overflow_sub-result : goal.overflow_sub-result
+overflow_sub-result c = subst (SFits w32) (sym (ap₂ ◌-ℤ◌ (to_z-of_z c.ranges.v) (scaled c))) (residue-fits (x c))
 
-sub-result-2 : tie.Need-overflow-sub-result-2
-sub-result-2 c = subst (SFits w32) (sym (less c)) (low_fits c)
+pub overflow_sub-result-2 : goal.overflow_sub-result-2
+overflow_sub-result-2 c = subst (SFits w32) (sym (less c)) (low_fits c)
 
-cast-result : tie.Need-overflow-cast-result
-cast-result c = subst (SFits w16) (sym (lowered c)) (rest-fits (x c))
+pub overflow_cast-result : goal.overflow_cast-result
+overflow_cast-result c = subst (SFits w16) (sym (lowered c)) (rest-fits (x c))
 
-returns : tie.Need-returns
+pub returns : goal.returns
 returns c = ap (λ (z : ℤ). to_z w16 (of_z w16 z)) (lowered c) ∙ to_z-of_z (rest-fits (x c))
-
-pub low-spec : {M : Type 1} → statement M
-low-spec = tie.close (tie.spec mul-result sub-result sub-result-2 cast-result returns)

@@ -1,0 +1,33 @@
+-- `itxb1_blocks::stage_two::two64` meets its contract: halves gathered, summed, put together. Assumes nothing.
+use mathlib.Core.Path.{refl, sym, ap, ◌∙◌}
+use native.Mathlib.Omega.{arith}
+use lib.ListN.{length}
+use Rattle.integers.proofs.Written.{tab-length}
+use Rattle.itxb1_blocks.proofs.stage_two.Products.{tail-reads, block-joined}
+use Rattle.itxb1_blocks.proofs.stage_two.two64.Goals as goal
+
+pub highs-requires : goal.highs-requires
+highs-requires c = let g = c.requires.1 in record { long = refl; rows = refl; apart = omega arith; among = g.among; src-room = g.src-room }
+
+pub lows-requires : goal.lows-requires
+lows-requires c =
+    let g = c.requires.1 in
+    record { long = c.highs.ensures.long; rows = refl; apart = omega arith; among = g.among; src-room = g.src-room }
+
+pub slice_bounds-tail-end : goal.slice_bounds-tail-end
+slice_bounds-tail-end c = sym (ap length c.sums64.ensures ∙ tab-length 1024 _)
+
+pub slice_bounds-tail-end-2 : goal.slice_bounds-tail-end-2
+slice_bounds-tail-end-2 c = sym (ap length c.sums64-2.ensures ∙ tab-length 1024 _)
+
+pub tail-requires : goal.tail-requires
+tail-requires c = (
+  tail-reads c.requires.0 (ap length c.sums64.ensures ∙ tab-length 1024 _)
+      (ap length c.sums64-2.ensures ∙ tab-length 1024 _) (omega arith) refl (omega arith),
+  c.requires.1.dst-room,
+)
+
+pub returns : goal.returns
+returns c =
+    block-joined c.requires.0 c.args.src.now 16 c.args.l c.args.j0 1024 refl refl (omega arith) c.highs.ensures
+    c.sums64.ensures c.lows.ensures c.sums64-2.ensures c.tail.ensures
