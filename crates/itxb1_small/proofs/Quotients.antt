@@ -1,7 +1,7 @@
 -- Laws of the two steps in which stage two of size 8 clips: after 11 bits are shifted out 32 bits hold a quotient; a clip to 32 bits changes
 -- nothing for the clip to 16. Then the groups of lines: which line a place belongs to, and that the groups make up all lines. Assumes nothing.
 use borrow.Author.Tests.{lt-ltb, ltb-true}
-use mathlib.Core.Path.{◌≡◌, refl, ap, ◌∙◌}
+use mathlib.Core.Path.{◌≡◌, refl, ap}
 use mathlib.Core.Bool.{Bool, true, false}
 use mathlib.Core.List.{List}
 use Prim.Native.Nat.{ℕ, ◌+◌, ◌*◌, ◌/◌, ◌%◌, ◌^◌, ◌<◌, ◌≤◌}

@@ -1,0 +1,63 @@
+-- `itxb1_small::eight::rows` meets its contract: line after line, summed with document 01's table, and kept. Assumes nothing.
+use mathlib.Core.Path.{ap, ap₂, ◌∙◌}
+use Prim.Native.Nat.{◌+◌}
+use native.Mathlib.Omega.{arith}
+use lib.IntN.{ℤ, ◌+ℤ◌}
+use mir.Facts.{to_z-of_z}
+use Rattle.integers.specs.Z.{floor_pow, clip32}
+use Rattle.evc.specs.Table.{tm}
+use Rattle.itx_halving.specs.Line.{rows}
+use Rattle.itx_halving.proofs.Instance.{built-in-table, built-in-same}
+use Rattle.itx_halving.proofs.Lines.{next-ext, rounding-within, upto-none, upto-room, upto-more, upto_all}
+use Rattle.itx_halving.proofs.Rows.{reach-at, same_sum}
+use Rattle.itxb1_small.proofs.Quotients.{kept_at}
+use Rattle.itxb1_small.proofs.eight.rows.Goals as goal
+
+pub loop-j-init : goal.loop-j-init
+loop-j-init c = upto-none (omega (arith, c.requires.1.few, c.requires.1.z-room))
+
+pub overflow_add-j0 : goal.overflow_add-j0
+overflow_add-j0 c = omega (arith, c.requires.1.among, c.loop-j-test.true)
+
+pub line8-y-requires : goal.line8-y-requires
+line8-y-requires c =
+    let t = built-in-table 3 (omega arith) _ c.table-t.ensures in
+    let u = built-in-table 2 (omega arith) _ c.table-t.ensures in (
+      (reach-at 512 8 _ _ t (omega (arith, c.requires.1.among, c.loop-j-test.true)) c.requires.1.src-room, (t.mirrored, u.mirrored)),
+      rw (to_z-of_z c.ranges.add, c.requires.0.is) (rounding-within c.args.shift c.requires.0.most).bound,
+    )
+
+pub store_quotients-requires : goal.store_quotients-requires
+store_quotients-requires c =
+    let y = c.line8-y.ensures in
+    let g = c.requires.1 in (
+      (c.requires.0.most, y.small),
+      (
+        omega (arith, y.long),
+        (
+          upto-room c.loop-j.invariant c.loop-j-test.true,
+          (omega (arith, c.loop-j-test.true, g.few), omega (arith, g.z-room, c.loop-j.invariant.long)),
+        ),
+      ),
+    )
+
+pub overflow_step-j : goal.overflow_step-j
+overflow_step-j c = omega (arith, c.loop-j-test.true)
+
+pub loop-j-smaller : goal.loop-j-smaller
+loop-j-smaller c = omega (arith, c.loop-j-test.true)
+
+pub loop-j-preserved : goal.loop-j-preserved
+loop-j-preserved c =
+    upto-more c.loop-j.invariant c.loop-j-test.true
+    (next-ext c.store_quotients.ensures
+    (λ k h.
+    let e = same_sum (rows c.table-t.result 512) (tm 8) 8 c.args.l (c.args.j0 + c.loop-j.j) k c.args.src.now (built-in-same 3 (omega arith) _ c.table-t.ensures) h in
+    ap (λ (z : ℤ). clip32 (floor_pow z c.args.shift)) (c.line8-y.ensures.at k h ∙ ap₂ ◌+ℤ◌ e (to_z-of_z c.ranges.add ∙ c.requires.0.is))
+    ∙ kept_at c.args.l c.args.shift c.args.src.now c.args.j0 c.loop-j.j k h))
+
+pub shape_of-z : goal.shape_of-z
+shape_of-z c = c.loop-j.invariant.long
+
+pub returns : goal.returns
+returns c = upto_all c.loop-j.invariant c.loop-j-test.false

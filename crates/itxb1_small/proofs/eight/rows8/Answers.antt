@@ -1,0 +1,95 @@
+-- `itxb1_small::eight::rows8` meets its contract: group after group. Assumes nothing.
+use mathlib.Core.Path.{◌≡◌, refl, ap, ◌∙◌}
+use mathlib.Core.List.{List}
+use Prim.Native.Nat.{ℕ, ◌+◌, ◌*◌, ◌/◌, ◌≤◌, ◌<◌}
+use native.Mathlib.Omega.{arith}
+use native.Mathlib.Nat.{mul-le-mul_right}
+use lib.ListN.{length}
+use lib.IntN.{ℤ}
+use mir.Facts.{to_z-of_z}
+use Rattle.integers.specs.Lists.{written}
+use Rattle.integers.proofs.Written.{written_none, written-length, written_count}
+use Rattle.evc.specs.Table.{tm}
+use Rattle.evc.specs.Stages.{stage_two_at}
+use Rattle.itxb1_small.proofs.Quotients.{group-most}
+use Rattle.itxb1_small.proofs.eight.rows8.Goals.{Start}
+use Rattle.itxb1_small.proofs.eight.rows8.Goals as goal
+
+-- what the stage leaves
+abbrev left : Start → ℕ → ℤ
+left s = stage_two_at (tm 8) 8 s.args.l s.args.shift s.args.src.now
+
+-- i groups of n are among the lines
+among : (i m n l : ℕ) → i ≤ n → n * m ≡ l → i * m ≤ l
+among i m n l h e = omega (arith, mul-le-mul_right {m = i} {n = n} m h)
+
+next : (i m n l : ℕ) → i < n → n * m ≡ l → i * m + m ≤ l
+next i m n l h e = let p : (i + 1) * m ≡ i * m + m = omega arith in omega (arith, among (i + 1) m n l (omega arith) e)
+
+turn : (i m : ℕ) → i * m * 8 + 8 * m ≡ (i + 1) * m * 8
+turn i m = let p : (i + 1) * m ≡ i * m + m = omega arith in omega arith
+
+same : (i m n l : ℕ) (G : ℕ → ℤ) (d₀ : List ℤ) {d : List ℤ} → i ≤ n → n * m ≡ l → 8 * l ≤ length d₀ → d ≡ written (i * m * 8) G d₀ → length d ≡ length d₀
+same i m n l G d₀ h e r p = ap length p ∙ written-length (i * m * 8) G d₀ (omega (arith, among i m n l h e))
+
+pub overflow_add-n : goal.overflow_add-n
+overflow_add-n c = omega (arith, c.requires.1.src-room)
+
+pub loop-i-init : goal.loop-i-init
+loop-i-init c =
+    let m = c.together-m.ensures in
+    let d = c.args.dst.now in (
+      (ap (λ (m : ℕ). (c.args.l + 7) / 8 * m) m ∙ c.requires.0.1, rw m (group-most c.args.l)),
+      (omega arith, written_count 0 _ (left (goal.at.loop-i-init c).Start) d d (omega arith) (written_none (left (goal.at.loop-i-init c).Start) d)),
+    )
+
+pub overflow_mul-i : goal.overflow_mul-i
+overflow_mul-i c =
+    let m = c.together-m.result in
+    let h = among c.loop-i.i m _ c.args.l c.loop-i.invariant.1.0 c.loop-i.invariant.0.0 in
+    omega (arith, c.requires.1.src-room)
+
+pub group-requires : goal.group-requires
+group-requires c =
+    let m = c.together-m.result in (
+      (rw (to_z-of_z c.ranges.add) c.requires.0.0, c.loop-i.invariant.0.1),
+      (
+        next c.loop-i.i m _ c.args.l c.loop-i-test.true c.loop-i.invariant.0.0,
+        record {
+          src-room = c.requires.1.src-room;
+          dst-room =
+              let e = same c.loop-i.i m _ c.args.l (left (goal.at.group-requires c).Start) c.args.dst.now c.loop-i.invariant.1.0 c.loop-i.invariant.0.0 c.requires.1.dst-room c.loop-i.invariant.1.1 in
+              omega (arith, c.requires.1.dst-room, e);
+        },
+      ),
+    )
+
+pub overflow_step-i : goal.overflow_step-i
+overflow_step-i c = omega (arith, c.loop-i-test.true)
+
+pub loop-i-smaller : goal.loop-i-smaller
+loop-i-smaller c = omega (arith, c.loop-i-test.true)
+
+pub loop-i-preserved : goal.loop-i-preserved
+loop-i-preserved c =
+    let m = c.together-m.result in
+    let h = next c.loop-i.i m _ c.args.l c.loop-i-test.true c.loop-i.invariant.0.0 in
+    let e : c.loop-i.i * m * 8 + 8 * m ≡ (c.loop-i.i + 1) * m * 8 = turn c.loop-i.i m in (
+      c.loop-i.invariant.0,
+      (
+        omega (arith, c.loop-i-test.true),
+        written_count (c.loop-i.i * m * 8 + 8 * m) ((c.loop-i.i + 1) * m * 8) (left (goal.at.loop-i-preserved c).Start) c.args.dst.now _ e
+            (c.group.ensures.after (left (goal.at.loop-i-preserved c).Start) c.args.dst.now (omega (arith, c.requires.1.dst-room)) c.loop-i.invariant.1.1 (λ k q. refl)),
+      ),
+    )
+
+pub shape_of-dst : goal.shape_of-dst
+shape_of-dst c =
+    same c.loop-i.i c.together-m.result _ c.args.l (left (goal.at.shape_of-dst c).Start) c.args.dst.now c.loop-i.invariant.1.0 c.loop-i.invariant.0.0 c.requires.1.dst-room c.loop-i.invariant.1.1
+
+pub returns : goal.returns
+returns c =
+    let m = c.together-m.result in
+    let n : c.loop-i.i ≡ (c.args.l + 7) / 8 = omega (arith, c.loop-i.invariant.1.0, c.loop-i-test.false) in
+    let e : c.loop-i.i * m ≡ c.args.l = ap (λ (i : ℕ). i * m) n ∙ c.loop-i.invariant.0.0 in
+    written_count (c.loop-i.i * m * 8) (8 * c.args.l) (left (goal.at.returns c).Start) c.args.dst.now _ (omega arith) c.loop-i.invariant.1.1

@@ -1,0 +1,80 @@
+-- `itxb1_small::store::store_i16` meets its contract: place after place. Assumes nothing.
+use mathlib.Core.Path.{sym, ap, ◌∙◌, subst}
+use mathlib.Core.List.{[], ◌∷◌}
+use Prim.Native.Nat.{ℕ, ◌*◌, ◌^◌}
+use native.Mathlib.Omega.{arith}
+use lib.ListN.{get_or}
+use lib.IntN.{ℤ, pos, ◌+ℤ◌}
+use lib.Signed.{shr_z}
+use mir.Syntax.{w16, w64}
+use mir.Val.{to_z, of_z}
+use Rattle.itx_halving.specs.Lines.{shifted, Next}
+use Rattle.integers.specs.Z.{clip16}
+use Rattle.integers.proofs.Bound.{Within}
+use Rattle.integers.proofs.Expr.{var, add, shr, loc, Known, small, env, fit, reads}
+use Rattle.itx_halving.proofs.Lines.{next-none, next_more, rounding-within}
+use Rattle.integers.proofs.Bits.{back}
+use Rattle.itxb1_small.proofs.store.store_i16.Goals.{After-clip16-arg-1}
+use Rattle.itxb1_small.proofs.store.store_i16.Goals as goal
+
+pub loop-k-init : goal.loop-k-init
+loop-k-init c = (omega arith, next-none)
+
+pub offset_bounds-y-k : goal.offset_bounds-y-k
+offset_bounds-y-k c = omega (arith, c.requires.1.0)
+
+pub bounds-y-k : goal.bounds-y-k
+bounds-y-k c = omega (arith, c.requires.1.0)
+
+-- the sum and its rounding number
+abbrev known : After-clip16-arg-1 → ℕ → Known
+known c =
+    let k = c.loop-k.k in
+    env (
+    small w64 (get_or c.args.y.now k (pos 0)) 17592186044416 (record { bound = c.requires.0.1.small k c.loop-k-test.true }) tt
+    ∷ small w64 c.args.add 2147483648 (subst (Within 2147483648) (sym c.requires.0.0.is) (rounding-within c.args.shift c.requires.0.0.most)) tt
+    ∷ []
+    )
+
+pub overflow_add-y : goal.overflow_add-y
+overflow_add-y c = fit (known c) w64 (add (var 0) (var 1)) tt
+
+pub overflow_shr-y : goal.overflow_shr-y
+overflow_shr-y c = omega (arith, c.requires.0.0.most)
+
+pub overflow_mul-j : goal.overflow_mul-j
+overflow_mul-j c = omega (arith, c.requires.1.1)
+
+pub overflow_add-j : goal.overflow_add-j
+overflow_add-j c = omega (arith, c.requires.1.1)
+
+pub offset_bounds-dst-j : goal.offset_bounds-dst-j
+offset_bounds-dst-j c = omega (arith, c.requires.1.1)
+
+pub bounds-dst-j : goal.bounds-dst-j
+bounds-dst-j c = omega (arith, c.requires.1.1, c.loop-k.invariant.1.long)
+
+pub overflow_step-k : goal.overflow_step-k
+overflow_step-k c = omega arith
+
+pub loop-k-smaller : goal.loop-k-smaller
+loop-k-smaller c = omega arith
+
+pub loop-k-preserved : goal.loop-k-preserved
+loop-k-preserved c =
+    let k = c.loop-k.k in (
+      omega arith,
+      next_more (to_z w16 (of_z w16 c.clip16.result)) c.loop-k.invariant.1
+          (back w16 c.clip16.result c.clip16.type_inv ∙ c.clip16.ensures
+          ∙ ap clip16 (reads (known (goal.at.loop-k-preserved c).After-clip16-arg-1) (loc w64 (shr (loc w64 (add (var 0) (var 1))) c.args.shift)) tt)
+          ∙ ap (λ (r : ℤ). clip16 (shr_z (get_or c.args.y.now k (pos 0) +ℤ r) (2 ^ c.args.shift))) c.requires.0.0.is),
+    )
+
+pub shape_of-dst : goal.shape_of-dst
+shape_of-dst c = c.loop-k.invariant.1.long
+
+pub returns : goal.returns
+returns c =
+    let a = c.args in
+    subst (λ (k : ℕ). Next a.dst.now c.loop-k.dst (a.j * a.n) k (λ i. shifted a.shift (get_or a.y.now i (pos 0))))
+    (omega arith) c.loop-k.invariant.1
