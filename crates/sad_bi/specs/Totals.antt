@@ -1,12 +1,12 @@
 -- What bi-prediction values and samples add up to. Cited by the contracts of src/blocks.rt and src/edges.rt. Assumes nothing.
-use Rattle.std.specs.Prelude.{◌≡◌, ℕ, ◌^◌, ◌<◌, ℤ, pos, ◌-ℤ◌, bit_or, unsigned_abs}
+use Rattle.std.specs.Prelude.{◌≡◌, ℕ, ◌^◌, ◌<◌, ℤ, pos, ◌-ℤ◌, bit_or, nat_abs}
 use Rattle.integers.specs.Sum.{sum_n}
 use Rattle.integers.specs.Or.{or_n}
 use Rattle.sad_bi.specs.Marks.{low_mark_of}
 
 -- how far a bi-prediction value and a sample are apart
 unfoldable pub apart_bi : ℤ → ℕ → ℕ
-apart_bi v q = unsigned_abs (v -ℤ pos q)
+apart_bi v q = nat_abs (v -ℤ pos q)
 
 -- what they leave for the test of SAMPLE
 abbrev pub mark_bi : ℤ → ℕ → ℕ

@@ -1,6 +1,6 @@
 -- `sad_bi::blocks::total` meets its contract: a sum over a packed block is one over runs of its values, and nothing was cut where no mark has more than 14
 -- bits. Assumes nothing.
-use Rattle.std.proofs.Common.{◌≡◌, ℕ, ◌+◌, ◌-◌, ◌*◌, ◌/◌, ◌%◌, ◌^◌, ◌<◌, ◌≤◌, List, length, get_or, ℤ, pos, sym, ap, ◌∙◌, subst, ap₂, mul-le-mul_right, mul_comm, add-mul, mul-le-mul, div-add-mod', arith, rules}
+use Rattle.std.proofs.Common.{◌≡◌, ℕ, ◌+◌, ◌-◌, ◌*◌, ◌/◌, ◌%◌, ◌^◌, ◌<◌, ◌≤◌, List, length, get_or, ℤ, pos, sym, ap, ◌∙◌, subst, ap₂, mul-le-mul_right, mul_comm, add-mul, mul-le-mul, div-add-mod', arith}
 use lib.Bits.{bit_or}
 use Rattle.integers.specs.Sum.{Addition, addition_n+, sum, sum_n}
 use Rattle.integers.specs.Or.{addition_or, or_n}
@@ -16,8 +16,7 @@ use Rattle.sad_bi.proofs.Cut.{near-is}
 use Rattle.block_rows.specs.Totals.{BlocksTotalled}
 use Rattle.sad_bi.proofs.Ends.{counted-all}
 use Rattle.sad_bi.proofs.Pairs.{sum_rows}
-use Rattle.sad_bi.proofs.blocks.total.Statement.{statement}
-use Rattle.sad_bi.proofs.blocks.total.Tie as tie
+use Rattle.sad_bi.proofs.blocks.total.Goals as goal
 
 module _ (a : List ℤ) (b : List ℕ) (s : ℕ) where
   -- over a packed block, as over its values one after another
@@ -76,39 +75,32 @@ in-runs w h n d m k s t e f g u z p =
     let two : reach s w w h ≤ k = subst (λ (x : ℕ). reach s w x h ≤ k) u p.two in
     record { small = f; few = g; one = omega arith; two = omega arith }
 
-mul-size : tie.Need-overflow-mul-size
-mul-size c = let s = c.before.before in omega (arith, size-le s.requires.narrow s.requires.low)
+pub overflow_mul-size : goal.overflow_mul-size
+overflow_mul-size c = omega (arith, size-le c.requires.narrow c.requires.low)
 
-runs-requires : tie.Need-runs-requires
-runs-requires c κs =
-    let s = c.before.before.before in
-    let a = s.args in
-    in-runs a.w a.h 256 512 (length a.a.now) (length a.b.now) a.b_at a.b-stride (omega arith) (omega arith)
-    (omega (arith, size-le s.requires.narrow s.requires.low)) c.before.if1.true c.if2.true s.requires
+pub runs-requires : goal.runs-requires
+runs-requires c =
+    let a = c.args in
+    in-runs a.w a.h 256 512 (length a.a.now) (length a.b.now) a.b_at a.b_stride (omega arith) (omega arith)
+    (omega (arith, size-le c.requires.narrow c.requires.low)) c.if-b_stride-w.true c.if-size-eq0.true c.requires
 
-returns : tie.Need-returns
-returns c =
-    let s = c.before.before.before.before in
-    let a = s.args in
-    counted a.a.now a.b.now a.b_at a.w a.h 256 (a.w * a.h / 512) a.b-stride c.before.before.if1.true
-    (divided a.w a.h 512 c.before.if2.true) c.runs.ensures
+pub returns-then-size-eq0 : goal.returns-then-size-eq0
+returns-then-size-eq0 c =
+    let a = c.args in
+    counted a.a.now a.b.now a.b_at a.w a.h 256 (a.w * a.h / 512) a.b_stride c.if-b_stride-w.true
+    (divided a.w a.h 512 c.if-size-eq0.true) c.runs.ensures
 
-runs-requires-2 : tie.Need-runs-requires-2
-runs-requires-2 c κs =
-    let s = c.before.before.before.before in
-    let a = s.args in
-    in-runs a.w a.h 32 64 (length a.a.now) (length a.b.now) a.b_at a.b-stride (omega arith) (omega arith)
-    (omega (arith, size-le s.requires.narrow s.requires.low)) c.before.before.if1.true c.if3.true s.requires
+pub runs-requires-then-size-eq0-2 : goal.runs-requires-then-size-eq0-2
+runs-requires-then-size-eq0-2 c =
+    let a = c.args in
+    in-runs a.w a.h 32 64 (length a.a.now) (length a.b.now) a.b_at a.b_stride (omega arith) (omega arith)
+    (omega (arith, size-le c.requires.narrow c.requires.low)) c.if-b_stride-w.true c.if-size-eq0-2.true c.requires
 
-returns-2 : tie.Need-returns-2
-returns-2 c =
-    let s = c.before.before.before.before.before in
-    let a = s.args in
-    counted a.a.now a.b.now a.b_at a.w a.h 32 (a.w * a.h / 64) a.b-stride c.before.before.before.if1.true
-    (divided a.w a.h 64 c.before.if3.true) c.runs2.ensures
+pub returns-then-size-eq0-2 : goal.returns-then-size-eq0-2
+returns-then-size-eq0-2 c =
+    let a = c.args in
+    counted a.a.now a.b.now a.b_at a.w a.h 32 (a.w * a.h / 64) a.b_stride c.if-b_stride-w.true
+    (divided a.w a.h 64 c.if-size-eq0-2.true) c.runs-then-size-eq0-2.ensures
 
-returns-3 : tie.Need-returns-3
-returns-3 c = counted-all _ _ _ _ c.sad-block.ensures
-
-pub total-spec : {M : Type 1} → statement M
-total-spec = tie.close (tie.spec mul-size runs-requires returns runs-requires-2 returns-2 (λ c κs. search rules) returns-3)
+pub returns : goal.returns
+returns c = counted-all _ _ _ _ c.sad_block.ensures
