@@ -3,7 +3,6 @@ use mathlib.Core.Path.{ap, ◌∙◌}
 use mathlib.Core.List.{[], ◌∷◌}
 use Prim.Native.Nat.{ℕ}
 use native.Mathlib.Omega.{arith}
-use borrow.Author.Rules.{rules}
 use lib.IntN.{ℤ, pos, negsuc, nat_abs, ◌-ℤ◌, ◌*ℤ◌}
 use lib.Signed.{◌≤ℤ◌}
 use mir.Syntax.{w16, w32}
@@ -11,10 +10,10 @@ use Rattle.integers.proofs.Bound.{abs-mul}
 use Rattle.integers.proofs.Order.{nat-≤}
 use Rattle.integers.proofs.Expr.{Ex, Known, env, nat, var, sub, mul, loc, fit, reads, to-unsigned}
 use Rattle.block_rows.specs.Totals.{apart}
-use Rattle.ssd.proofs.rows.square.Statement.{statement}
-use Rattle.ssd.proofs.rows.square.Tie as tie
+use Rattle.ssd.proofs.rows.square.Goals.{Start}
+use Rattle.ssd.proofs.rows.square.Goals as goal
 
-abbrev ρ : tie.Start → ℕ → Known
+abbrev ρ : Start → ℕ → Known
 ρ c = env (nat w16 c.args.p 16383 (omega arith) tt ∷ nat w16 c.args.q 16383 (omega arith) tt ∷ [])
 
 abbrev d : Ex
@@ -27,23 +26,20 @@ no-square-negative : (z : ℤ) → pos 0 ≤ℤ (z *ℤ z)
 no-square-negative (pos n) = nat-≤ (omega arith)
 no-square-negative (negsuc n) = nat-≤ (omega arith)
 
-sub-d : tie.Need-overflow-sub-d
-sub-d c = fit (ρ c) w16 d tt
+pub overflow_sub-d : goal.overflow_sub-d
+overflow_sub-d c = fit (ρ c) w16 d tt
 
-cast-e : tie.Need-overflow-cast-e
-cast-e c = fit (ρ c) w32 (loc w16 d) tt
+pub overflow_cast-e : goal.overflow_cast-e
+overflow_cast-e c = fit (ρ c) w32 (loc w16 d) tt
 
-mul-result : tie.Need-overflow-mul-result
-mul-result c = fit (ρ c) w32 (mul e e) tt
+pub overflow_mul-result : goal.overflow_mul-result
+overflow_mul-result c = fit (ρ c) w32 (mul e e) tt
 
-cast-result : tie.Need-overflow-cast-result
-cast-result c = to-unsigned (ρ c) w32 (loc w32 (mul e e)) tt tt (no-square-negative (pos c.args.p -ℤ pos c.args.q))
+pub overflow_cast-result : goal.overflow_cast-result
+overflow_cast-result c = to-unsigned (ρ c) w32 (loc w32 (mul e e)) tt tt (no-square-negative (pos c.args.p -ℤ pos c.args.q))
 
-returns : tie.Need-returns
+pub returns : goal.returns
 unfolding apart
 returns c =
     let z = pos c.args.p -ℤ pos c.args.q in
     ap nat_abs (reads (ρ c) (loc w32 (mul e e)) tt) ∙ abs-mul z z
-
-pub square-spec : {M : Type 1} → statement M
-square-spec = tie.close (tie.spec (λ c. search rules) (λ c. search rules) sub-d cast-e mul-result cast-result returns)
