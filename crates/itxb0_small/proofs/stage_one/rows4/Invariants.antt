@@ -1,0 +1,12 @@
+-- `itxb0_small::stage_one::rows4` meets its contract: line after line, summed with document 01's table, and stored. Assumes nothing.
+use Prim.Native.Nat.{◌-◌}
+use Rattle.evc.specs.Table.{tm}
+use Rattle.evc.specs.Stages.{stage_one_at}
+use Rattle.itx_halving.proofs.Lines.{Upto}
+use Rattle.itxb0_small.proofs.stage_one.rows4.Given as goal
+
+abbrev pub invariant-loop-j : goal.invariant-loop-j
+invariant-loop-j l = Upto (stage_one_at (tm 4) 4 l.l l.src) 4 l.l l.initial.dst l.dst l.j
+
+abbrev pub decreases-loop-j : goal.decreases-loop-j
+decreases-loop-j l = l.l - l.j
