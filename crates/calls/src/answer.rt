@@ -7,7 +7,7 @@ use evc::{Answer, Distortion, Report, Scale, SquaredDistortion, SubAnswer};
 
 // The number; the tags of the words for it and for the component that it names, if it names one; the value of a call that has one; and
 // the reason where one is reported.
-#[derive(Drop)]
+#[derive(Clone, Copy)]
 pub(crate) struct Reply {
     pub(crate) number: u8,
     pub(crate) tag: u8,

@@ -4,7 +4,13 @@ use crate::choice::either_byte;
 use crate::entry::{argument, form};
 use crate::out::{Room, end, number, signed, text, words};
 use crate::read::{Call, NONE};
-use libc::{EACCES, EISDIR, ENOENT};
+
+// Errors of the system that have words of their own.
+const ENOENT: i32 = 2;
+
+const EACCES: i32 = 13;
+
+const EISDIR: i32 = 21;
 
 // A line that is no call: the input's name, if it has one; the line and the column, counted from 1, and the argument that should stand there; what is
 // wrong, and how the call is written.
@@ -32,8 +38,8 @@ pub(crate) fn malformed(
     end(o, at)
 }
 
-// An input that can't be read, and why.
-pub(crate) fn unread(o: &mut Room, start: usize, name: &[u8], error: i32) -> usize {
+// An input that can't be read, and why: the system's error, or none where it was not asked, since a name has to be text.
+pub(crate) fn unread(o: &mut Room, start: usize, name: &[u8], error: Option<i32>) -> usize {
     let mut at = words(o, start, b'u');
     at = text(o, at, name);
     at = words(o, at, either_byte(name.len() == 0, b'a', NONE));
@@ -41,15 +47,16 @@ pub(crate) fn unread(o: &mut Room, start: usize, name: &[u8], error: i32) -> usi
     end(o, at)
 }
 
-fn reason(o: &mut Room, start: usize, error: i32) -> usize {
+fn reason(o: &mut Room, start: usize, error: Option<i32>) -> usize {
     match error {
-        ENOENT => words(o, start, b'q'),
-        EACCES => words(o, start, b'x'),
-        EISDIR => words(o, start, b'd'),
-        _ => {
+        Some(ENOENT) => words(o, start, b'q'),
+        Some(EACCES) => words(o, start, b'x'),
+        Some(EISDIR) => words(o, start, b'd'),
+        Some(number) => {
             let at = words(o, start, b'y');
-            signed(o, at, wide_32(error))
+            signed(o, at, wide_32(number))
         }
+        None => words(o, start, b'z'),
     }
 }
 

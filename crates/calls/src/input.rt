@@ -5,13 +5,18 @@ use crate::tally::Tally;
 use crate::token::byte_at;
 use crate::values::least;
 use crate::{entry, fault, line, out, tally};
+use std::io;
+use std::io::Read;
+
+// What one read brings.
+type Part = [u8; 65536];
 
 // Room for a line that is just too long.
 type Text = [u8; 524288];
 
 // What was read stands in the part from `from` to `upto`; the first `kept` bytes of the line with the number `row` are kept, and those past the
 // buffer's end are not. `at`: how much of the output's room is taken. `open`: there may be more to read.
-#[derive(Drop)]
+#[derive(Clone, Copy)]
 struct State {
     from: usize,
     upto: usize,
@@ -22,32 +27,41 @@ struct State {
 }
 
 // A read that fails is told, and counted as an error. Of an empty input, says how the program is used.
-fn told(o: &mut Room, at: usize, name: &[u8], tally: &mut Tally, got: isize, empty: bool) -> usize {
-    if got < 0 {
-        tally::count(tally, tally::ERRORS);
-        return fault::unread(o, at, name, os::errno());
+fn told(
+    o: &mut Room,
+    at: usize,
+    name: &[u8],
+    tally: &mut Tally,
+    got: &io::Result<usize>,
+    empty: bool,
+) -> usize {
+    match got {
+        Err(e) => {
+            tally::count(tally, tally::ERRORS);
+            fault::unread(o, at, name, e.raw_os_error())
+        }
+        Ok(0) if empty => {
+            let next = entry::usage(o, at);
+            out::end(o, next)
+        }
+        Ok(_) => at,
     }
-    if (got == 0) & empty {
-        let next = entry::usage(o, at);
-        return out::end(o, next);
-    }
-    at
 }
 
 // Reads the next part, before which all that was said is written. Where nothing is read, what stands there is the end of the last line.
 fn filled(
-    fd: i32,
+    input: &mut impl Read,
     name: &[u8],
-    part: &mut Room,
+    part: &mut Part,
     o: &mut Room,
     tally: &mut Tally,
     s: State,
 ) -> State {
     let at = out::flush(o, s.at);
-    let got = libc::read(fd, part);
-    let n = io::count(got, part);
+    let got = input.read(part);
     let empty = (s.kept == 0) & (s.row == 1);
-    let next = told(o, at, name, tally, got, empty);
+    let next = told(o, at, name, tally, &got, empty);
+    let n = got.unwrap_or(0);
     if n == 0 {
         out::store(part, 0, b'\n');
     }
@@ -62,7 +76,7 @@ fn filled(
 }
 
 // Keeps what was read, up to the end of a line.
-fn keep(part: &Room, text: &mut Text, s: State) -> State {
+fn keep(part: &Part, text: &mut Text, s: State) -> State {
     let mut i = s.from;
     let mut k = s.kept;
     while i < s.upto && byte_at(part, i) != b'\n' {
@@ -81,9 +95,9 @@ fn keep(part: &Room, text: &mut Text, s: State) -> State {
 
 // Reads on where all that was read is used up.
 fn ready(
-    fd: i32,
+    input: &mut impl Read,
     name: &[u8],
-    part: &mut Room,
+    part: &mut Part,
     o: &mut Room,
     tally: &mut Tally,
     s: State,
@@ -91,15 +105,15 @@ fn ready(
     if s.from < s.upto {
         s
     } else {
-        filled(fd, name, part, o, tally, s)
+        filled(input, name, part, o, tally, s)
     }
 }
 
 // Keeps more of a line, and answers it where it has its end.
 fn turn(
-    fd: i32,
+    input: &mut impl Read,
     name: &[u8],
-    part: &mut Room,
+    part: &mut Part,
     text: &mut Text,
     o: &mut Room,
     tally: &mut Tally,
@@ -109,7 +123,7 @@ fn turn(
     two: &mut [u16],
     before: State,
 ) -> State {
-    let r = ready(fd, name, part, o, tally, before);
+    let r = ready(input, name, part, o, tally, before);
     let s = keep(part, text, r);
     if s.from < s.upto {
         let n = least(s.kept, 524288);
@@ -143,7 +157,13 @@ fn turn(
 
 // Answers the lines of an input, and where it is empty says how the program is used. A proved loop has to end, and nothing says that an input
 // does: the loop counts its turns down from a number that no run uses up.
-pub(crate) fn replay(o: &mut Room, at: usize, fd: i32, name: &[u8], tally: &mut Tally) -> usize {
+pub(crate) fn replay(
+    o: &mut Room,
+    at: usize,
+    input: &mut impl Read,
+    name: &[u8],
+    tally: &mut Tally,
+) -> usize {
     let mut part = [0u8; 65536];
     let mut text = [0u8; 524288];
     let mut shorts = [0i16; 16384];
@@ -161,7 +181,7 @@ pub(crate) fn replay(o: &mut Room, at: usize, fd: i32, name: &[u8], tally: &mut 
     let mut turns = u64::MAX;
     while 0 < turns && s.open {
         s = turn(
-            fd,
+            input,
             name,
             &mut part,
             &mut text,

@@ -4,6 +4,8 @@
 // line and `input` all of them.
 // Nothing here promises more than to be safe and to end: the meaning of the answers is promised by the crates that are called, and that the text is
 // read and written right is shown by the recorded runs.
+#![tactic(auto)]
+
 mod answer;
 mod choice;
 mod distortions;
@@ -19,26 +21,39 @@ mod token;
 mod transforms;
 mod values;
 
-use libc::STDIN_FILENO;
-use out::Room;
+use out::{LOST, Room};
+use std::env::{Env, FillError};
+use std::fs::File;
+use std::process::ExitCode;
+use std::rt::Files;
+use std::str;
 use tally::Tally;
 
 // Replays a file, or says why it can't be read.
-fn file(o: &mut Room, at: usize, name: &[u8], tally: &mut Tally) -> usize {
-    let fd = os::open_read(name);
-    if fd < 0 {
+fn file(rt: &impl Files, o: &mut Room, at: usize, name: &[u8], tally: &mut Tally) -> usize {
+    let Ok(path) = str::from_utf8(name) else {
         tally::count(tally, tally::ERRORS);
-        return fault::unread(o, at, name, os::errno());
+        return fault::unread(o, at, name, None);
+    };
+    match File::open(rt, path) {
+        Ok(mut input) => input::replay(o, at, &mut input, name, tally),
+        Err(e) => {
+            tally::count(tally, tally::ERRORS);
+            fault::unread(o, at, name, e.raw_os_error())
+        }
     }
-    let next = input::replay(o, at, fd, name, tally);
-    libc::close(fd);
-    next
 }
 
 // What an argument asks for: how the program is used, or the replay of the file that it names.
-fn argument(o: &mut Room, at: usize, i: usize, tally: &mut Tally) -> usize {
-    let mut path = io::buffer();
-    let n = os::arg(i, &mut path);
+fn argument(
+    rt: &(impl Env + Files),
+    o: &mut Room,
+    at: usize,
+    i: usize,
+    tally: &mut Tally,
+) -> usize {
+    let mut path = [0u8; 4095];
+    let n = rt.arg(i, &mut path).unwrap_or(0);
     let name = &path[0..n];
     if out::named(b"\n  --help\n", 0, name, 0) {
         let next = entry::usage(o, at);
@@ -47,24 +62,35 @@ fn argument(o: &mut Room, at: usize, i: usize, tally: &mut Tally) -> usize {
         tally::count(tally, tally::ERRORS);
         fault::no_name(o, at)
     } else {
-        file(o, at, name, tally)
+        file(rt, o, at, name, tally)
     }
 }
 
-// Replays the files that the arguments name, or standard input where there are none, and sums up.
-fn main() {
-    let mut room = [0u8; 65536];
+// How many arguments there are, the program's own name among them: all before the first that is not there.
+fn arguments(rt: &impl Env) -> usize {
+    for i in 0..usize::MAX {
+        if let Err(FillError::NotPresent) = rt.arg(i, &mut []) {
+            return i;
+        }
+    }
+    usize::MAX
+}
+
+// Replays the files that the arguments name, or standard input where there are none, and sums up. It fails where not all could be written.
+fn main(rt: HostRuntime) -> ExitCode {
+    let mut room = out::empty(rt.stdout(), rt.stderr());
     let mut tally = [0usize; 10];
-    let count = os::arg_count();
+    let count = arguments(&rt);
     let mut at = 0;
     if count < 2 {
-        at = input::replay(&mut room, at, STDIN_FILENO, b"", &mut tally);
+        at = input::replay(&mut room, at, &mut rt.stdin(), b"", &mut tally);
     }
-    let mut i = 1;
-    while i < count {
-        at = argument(&mut room, at, i, &mut tally);
-        i += 1;
+    for i in 1..count {
+        at = argument(&rt, &mut room, at, i, &mut tally);
     }
     at = tally::total(&mut room, at, &tally);
-    out::flush(&room, at);
+    match out::flush(&room, at) {
+        LOST => ExitCode::FAILURE,
+        _ => ExitCode::SUCCESS,
+    }
 }

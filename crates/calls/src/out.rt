@@ -1,22 +1,39 @@
 // Standard output, through a buffer: `o` is its room and `at` how much of it is taken. Whatever says something is handed both, and answers how much is
 // taken then. What can't be written is told once, and from then on `at` is LOST and nothing more is written.
 use crate::token::{byte_at, is_blank};
-use libc::STDOUT_FILENO;
+use std::io::{Stderr, Stdout};
 
-pub(crate) type Room = [u8; 65536];
+// The room's bytes, where they are written to, and where it is told that they can't be.
+#[derive(Drop)]
+pub(crate) struct Room {
+    bytes: [u8; 65536],
+    output: Stdout,
+    faults: Stderr,
+}
 
 pub(crate) const LOST: usize = usize::MAX;
 
 const SIZE: usize = 65536;
 
-// Writes what is taken.
+// A room of which nothing is taken.
+pub(crate) fn empty(output: Stdout, faults: Stderr) -> Room {
+    Room {
+        bytes: [0; 65536],
+        output,
+        faults,
+    }
+}
+
+// Writes what is taken. Where standard error can't be written either, there is nobody left to tell.
 pub(crate) fn flush(o: &Room, at: usize) -> usize {
     if at <= SIZE {
-        let all = &o[..];
-        if io::write_all(STDOUT_FILENO, &all[0..at]) {
-            return 0;
+        let all = &o.bytes[..];
+        match o.output.write_all(&all[0..at]) {
+            Ok(()) => return 0,
+            Err(e) => {
+                let _ = eprintln!(o.faults; "calls: can't write standard output: {e}");
+            }
         }
-        os::fail(b"calls: can't write standard output");
     }
     LOST
 }
@@ -36,7 +53,7 @@ pub(crate) fn byte(o: &mut Room, at: usize, b: u8) -> usize {
         next = flush(o, at);
     }
     if next < SIZE {
-        o[next] = b;
+        o.bytes[next] = b;
         return next + 1;
     }
     next
@@ -178,6 +195,7 @@ pub(crate) fn words(o: &mut Room, at: usize, tag: u8) -> usize {
   x : it may not be read
   d : it is a folder
   y : the system's error number is
+  z : its name is not UTF-8
   . ;
   :  refused: 
   W width log 

@@ -15,7 +15,7 @@ pub(crate) const NONE: u8 = b' ';
 
 // A number, how often it stands from here on, and where reading goes on. A negative number stands as its two's complement. Or what is wrong, where, and
 // with which kind of number.
-#[derive(Drop)]
+#[derive(Clone, Copy)]
 pub(crate) struct Found {
     pub(crate) value: usize,
     pub(crate) times: usize,
@@ -27,7 +27,7 @@ pub(crate) struct Found {
 // A call: its tag, how far it is read, what is wrong, with which kind of number, at which place of the call from 1 on; what it takes, in the line's order, where a buffer stands as the place
 // of the line at which it starts; and the places of its buffers of i16, of i32 and of u16 once more. Sixteen fields and no array: each index would be a
 // place more for the prover to walk, a quarter of this program's check.
-#[derive(Drop)]
+#[derive(Clone, Copy)]
 pub(crate) struct Call {
     pub(crate) tag: u8,
     pub(crate) at: usize,

@@ -6,7 +6,7 @@ use boundary::TvReport;
 
 // The tags of the words for the component, for what was given and for how it broke the limit, and the two numbers. Where there is no report,
 // `what` is NONE.
-#[derive(Drop)]
+#[derive(Clone, Copy)]
 pub(crate) struct Reason {
     pub(crate) who: u8,
     pub(crate) what: u8,

@@ -19,7 +19,7 @@ pub(crate) const LONG: u8 = b'L';
 pub(crate) const MARK: u8 = b'O';
 
 // A number's sign and size, where it stands, where reading goes on, whether a star stands there, and what is wrong with it.
-#[derive(Drop)]
+#[derive(Clone, Copy)]
 pub(crate) struct Token {
     pub(crate) negative: bool,
     pub(crate) size: usize,
@@ -30,7 +30,7 @@ pub(crate) struct Token {
 }
 
 // Digits so far: the number, the place behind them, whether more may follow, and what is wrong: there are none, or the number has more than 64 bits.
-#[derive(Drop)]
+#[derive(Clone, Copy)]
 struct Digits {
     size: usize,
     stop: usize,
