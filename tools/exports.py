@@ -112,7 +112,7 @@ def structs(path, text, form, mark, field, name_of, types):
 
 
 def rust_structs(path, text):
-    form = r"#\[repr\(C\)\]\s*pub struct (?P<name>\w+)\s*\{(?P<fields>[^{}]*)\}"
+    form = r"#\[repr\(C\)\]\s*(?:#\[derive\([^)]*\)\]\s*)?pub struct (?P<name>\w+)\s*\{(?P<fields>[^{}]*)\}"
     return structs(path, without(r"//[^\n]*", text), form, r"repr\(C\)", r"pub (?P<field>\w+): (?P<type>\w+),", c_name, TYPES)
 
 
@@ -160,7 +160,7 @@ def inside(path, text, head):
 
 
 def read_export(path, text):
-    form = r'#\[no_mangle\]\s*pub extern "C" fn (?P<name>\w+)\s*\((?P<parameters>[^()]*)\)\s*->\s*(?P<answer>\w+)'
+    form = r'#\[unsafe\(no_mangle\)\]\s*pub extern "C" fn (?P<name>\w+)\s*\((?P<parameters>[^()]*)\)\s*->\s*(?P<answer>\w+)'
     return {"functions": functions(path, text, r"//[^\n]*", form, (r"no_mangle", r'extern "C"'), of_export, TYPES)}
 
 

@@ -12,7 +12,6 @@ from pathlib import Path
 ROOT = Path(__file__).resolve().parent.parent
 PICTURE = ROOT / "docs" / "house.svg"
 PAGE = ROOT / "docs" / "HOUSE.md"
-KIT = {"io", "libc", "os"}
 
 # a family: its name, its colour, where it stands in the picture (from, to), and which names are its own
 FAMILIES = [
@@ -28,14 +27,14 @@ WIDTH, BOX, HIGH, STEP, TOP = 1560, 104, 26, 74, 54
 
 
 def crates():
-    """Each crate's name with the names that it stands on, in the order of the file."""
+    """Each crate's name with the crates that it stands on, in the order of the file; the toolchain's libraries are left out."""
     out = {}
     for line in (ROOT / "crates.txt").read_text().splitlines():
         line = line.split("#")[0].strip()
         if line:
             name, _, below = line.partition(":")
-            out[name.strip()] = below.split()
-    return out
+            out[name.split()[0]] = below.split()
+    return {name: [d for d in below if d in out] for name, below in out.items()}
 
 
 def family(name):
@@ -44,19 +43,19 @@ def family(name):
 
 def reached(all_, name):
     """All that a crate stands on, and what that stands on."""
-    out, todo = set(), [d for d in all_[name] if d not in KIT]
+    out, todo = set(), list(all_[name])
     while todo:
         d = todo.pop()
         if d not in out:
             out.add(d)
-            todo += [e for e in all_[d] if e not in KIT]
+            todo += all_[d]
     return out
 
 
 def picture(all_):
     level = {}
     for name in all_:
-        level[name] = 1 + max((level[d] for d in all_[name] if d not in KIT), default=-1)
+        level[name] = 1 + max((level[d] for d in all_[name]), default=-1)
     for name in reversed(list(all_)):
         above = [level[c] for c in all_ if name in all_[c]]
         if {name, family(name)[0]} & LATE and above:
@@ -82,7 +81,6 @@ def picture(all_):
         x += 40 + 7 * len(name)
     out.append(f'<text x="{x + 10}" y="24" fill="#666">an arrow leads to what a crate stands on</text>')
     for c, below in all_.items():
-        below = [d for d in below if d not in KIT]
         for d in below:
             if any(d in reached(all_, e) for e in below if e != d):
                 continue
@@ -108,7 +106,7 @@ def faults(all_):
         files = [f for f in (ROOT / "crates" / c).rglob("*") if f.suffix in (".rt", ".antt")]
         text = "\n".join(f.read_text() for f in files)
         for d in below:
-            if d not in KIT and not re.search(rf"Rattle·{d}\b(?!·)|(?<![\w:]){d}::", text):
+            if not re.search(rf"Rattle\.{d}\.|(?<![\w:]){d}::", text):
                 yield f"crates.txt has {c} stand on {d}, which no file of it names"
 
 

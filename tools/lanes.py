@@ -18,21 +18,19 @@ FEW = {8: 8, 16: 4, 32: 2}
 def code(m):
     out = [
         f"// From size {m} to size {2 * m}, in all 16 lanes. Written by tools/lanes.py.",
-        "ghost use mathlib.Core.Path.{_≡_};",
-        "ghost use Prim.Native.Nat.{_≤_};",
-        "ghost use lib.ListN.{length};",
-        "ghost use Rattle·itx_table.specs.Flat.{flat};",
-        "ghost use Rattle·itx_lanes·specs.specs.Steps.{All, Sized};",
-        "use super::lanes::pick;",
-        "use super::lanes::places;",
+        "ghost use Rattle.std.specs.Prelude.{◌≡◌, ◌≤◌, length};",
+        "ghost use Rattle.itx_table.specs.Flat.{flat};",
+        "ghost use Rattle.itx_lanes.specs.Steps.{All, Sized};",
+        "",
+        "use super::lanes::{pick, places};",
         "",
     ]
     for g in range(0, m, MANY[m]):
         out += [
             f"// Places {g} to {g + MANY[m] - 1} and their mirrors.",
             f"fn rows{m}_{g}(t: &[i8; 4096], s: &[i16; 1024], e: &mut [i32])",
-            f"    requires {{ ⌜ (now t ≡ flat) × All (now s) (now e) {m} {g} {64 // m} ⌝ }}",
-            f"    ensures {{ λ _. ⌜ All (now (s .entry)) (now (e .exit)) {m} {g + MANY[m]} {32 // m} ⌝ }}",
+            f"    requires {{ (t.now ≡ flat) × All s.now e.old {m} {g} {64 // m} }}",
+            f"    ensures {{ All s.now e.new {m} {g + MANY[m]} {32 // m} }}",
             "{",
             "    for j in 0..16 {",
             f"        let mut picked = [0i32; {m}];",
@@ -43,8 +41,8 @@ def code(m):
         out += ["    }", "}", ""]
     out += [
         f"pub(crate) fn level{m}(s: &[i16; 1024], e: &mut [i32])",
-        f"    requires {{ ⌜ Sized (now s) (now e) {m} × ({2 * m * 16} ≤ length (now e)) ⌝ }}",
-        f"    ensures {{ λ _. ⌜ Sized (now (s .entry)) (now (e .exit)) {2 * m} ⌝ }}",
+        f"    requires {{ Sized s.now e.old {m} × ({2 * m * 16} ≤ length e.old) }}",
+        f"    ensures {{ Sized s.now e.new {2 * m} }}",
         "{",
         "    let all = itx_table::table();",
         "    let t = &all;",
@@ -54,134 +52,113 @@ def code(m):
     return "\n".join(out)
 
 
-def proof(module, name, does, uses, body, needs, loop=""):
-    """A proof file: what the function does, its imports, definitions and needs (name, its argument's rest, answer), and its loop, if any."""
-    here = f"Rattle·itx_lanes·proofs.proofs.{module}.{name}"
+def answers(module, name, does, uses, given):
+    """The file of a function's answers: what the function does, its imports, and each goal with its answer, one line or more."""
     out = [f"-- `itx_lanes::{module}::{name}` meets its contract: {does} Written by tools/lanes.py.", "-- Assumes nothing.", *uses]
-    out += [f"use {here}.Statement.{{statement}}", f"use {here}.Tie as tie", "", *body]
-    for need, rest, answer in needs:
-        out += [f"{need} : tie.Need-{need}{loop}", f"{need} c{rest} = {answer}".replace("= \n", "=\n"), ""]
-    spec = name.replace("_", "-") + "-spec"
-    out += [f"pub {spec} : {{M : Type 1}} → statement M", f"{spec} =", "    tie.close", "    (tie.spec"]
-    out += [f"    {name}" for name in loop.split()] + [f"    {need}" for need, _, _ in needs]
-    out[-1] += ")"
+    out += [f"use Rattle.itx_lanes.proofs.{module}.{name}.Goals as goal"]
+    for goal, answer in given:
+        out += ["", f"pub {goal} : goal.{goal}", f"{goal} c ={answer}" if answer.startswith("\n") else f"{goal} c = {answer}"]
     return "\n".join(out) + "\n"
 
 
-def back(k):
-    return " .before" * k
+def below(lines):
+    """An answer that stands below its goal's name."""
+    return "".join(f"\n    {line}" for line in lines)
 
 
-def broken(lines):
-    """An answer of several lines."""
-    return "\n    " + "\n    ".join(lines)
+def in_loop(word, k):
+    """What the k-th goal or call of one name in the loop is called, from 0 on."""
+    return word if k == 0 else f"{word}-in-loop-j" if k == 1 else f"{word}-in-loop-j-{k}"
 
 
-def nth(name, k):
-    return name if k == 1 else f"{name}-{k}"
-
-
-def called(name, k):
-    """What the k-th call of a function is named in a proof."""
-    return name if k == 1 else f"{name}{k}"
+def rows_invariants(m, g):
+    return "\n".join([
+        f"-- `itx_lanes::level{m}::rows{m}_{g}` meets its contract: lane after lane. Written by tools/lanes.py.",
+        "-- Assumes nothing.",
+        "use Prim.Native.Nat.{◌-◌}",
+        "use Rattle.itx_lanes.proofs.Passes.{Places, Passed}",
+        f"use Rattle.itx_lanes.proofs.level{m}.rows{m}_{g}.Given as goal",
+        "",
+        "abbrev pub invariant-loop-j : goal.invariant-loop-j",
+        f"invariant-loop-j l = Passed (Places l.s {m} {g} {64 // m}) (Places l.s {m} {g + MANY[m]} {32 // m}) l.initial.e l.e l.j",
+        "",
+        "abbrev pub decreases-loop-j : goal.decreases-loop-j",
+        "decreases-loop-j l = 16 - l.j",
+        "",
+    ])
 
 
 def rows(m, g):
-    """The loop over the lanes. It binds the loop, its test; the loan of the array, `pick`, and the loan's end; the loan of the inputs, which all calls
-    share; then, of each call, the loan of e, the call, and the loan's end."""
+    """The loop over the lanes: what each call of `places` needs is what the one before it left."""
     calls = MANY[m] // FEW[m]
     uses = [
         "use mathlib.Core.Path.{refl, sym}",
-        "use Prim.Native.Nat.{_-_}",
         "use native.Mathlib.Omega.{arith}",
         "use lib.Dec.{lit<, lit≤}",
-        "use Rattle·itx_lanes·proofs.proofs.Steps.{then}" if calls > 1 else "",
-        "use Rattle·itx_lanes·proofs.proofs.Passes.{Places, Passed, passed-none, next-lane, passed-lane, passed-all}",
+        *(["use Rattle.itx_lanes.proofs.Steps.{then}"] if calls > 1 else []),
+        "use Rattle.itx_lanes.proofs.Passes.{passed_none, next-lane, passed-lane, passed-all}",
     ]
-    body = [
-        "abbrev Inv-loop : tie.InvT-loop",
-        f"Inv-loop t s e₀ j₀ e j = Passed (Places s {m} {g} {64 // m}) (Places s {m} {g + MANY[m]} {32 // m}) e₀ e j",
-        "",
-        "abbrev μ-loop : tie.MeasureT-loop",
-        "μ-loop t s e₀ j₀ e j = 16 - j",
-        "",
-        "-- where the inputs are picked, as the first call sees it",
-        "abbrev picked : tie.After-places-arg Inv-loop μ-loop → tie.After-pick Inv-loop μ-loop",
-        "picked c = c .before .before .before",
-        "",
+    lane = "next-lane c.requires.1.level c.loop-j.invariant c.loop-j-test.true"
+    given = [
+        ("loop-j-init", "passed_none (λ i h. record { part = c.requires.1.part i h; narrow = c.requires.1.narrow i h })"),
+        ("slice_bounds-pick-end", "refl"),
+        ("pick-requires", "(refl, record { some = lit< tt; rows = lit≤ tt }, c.loop-j-test.true)"),
+        ("slice_bounds-x-end", "sym c.pick.ensures.long"),
+        ("places-requires", "\n".join([
+            "(",
+            "  record {",
+            "    table = c.requires.0;",
+            "    block = c.args.s.now;",
+            f"    given = record {{ lane = {lane}; picks = c.pick.ensures }};",
+            "  },",
+            "  (lit≤ tt, lit≤ tt),",
+            ")",
+        ])),
     ]
-    needs = [
-        ("loop-holds", "", "passed-none (λ i h. record { part = c .pre .1 .part i h; narrow = c .pre .1 .narrow i h })"),
-        ("slice-aggregate-pick", "", "refl"),
-        ("pick-requires", " κs", "(refl, record { some = lit< tt; rows = lit≤ tt }, c .before .loop-test .taken)"),
-        ("slice-aggregate-x", "", f"sym (c{back(2)} .pick .ensures .long)"),
+    for k in range(1, calls):
+        given.append((in_loop("places-requires", k), f"(c.{in_loop('places', k - 1)}.ensures.ready, (lit≤ tt, lit≤ tt))"))
+    # what each call leaves, first to last
+    left = [f"c.{in_loop('places', k)}.ensures" for k in range(calls)]
+    again = [
+        "passed-lane c.requires.1.level c.loop-j.invariant c.loop-j-test.true c.pick.ensures",
+        *(f"(then {one}" for one in left[:-1]),
+        left[-1] + ")" * (calls - 1),
     ]
-    given = "record { lane = next-lane (l .before .pre .1 .level) (l .loop .inv) (p .before .before .loop-test .taken); picks = p .pick .ensures }"
-    first = [
-        "let p = picked c in",
-        "let l = p .before .before .before in (",
-        "  record {",
-        "    table = l .before .pre .0;",
-        "    block = l .before .args .s .now;",
-        f"    given = {given};",
-        "  },",
-        "  (lit≤ tt, lit≤ tt),",
-        ")",
+    given += [
+        ("overflow_step-j", "omega arith"),
+        ("loop-j-smaller", "omega arith"),
+        ("loop-j-preserved", below(again)),
+        ("shape_of-e", "c.loop-j.invariant.long"),
+        ("returns", "passed-all c.requires.1.level c.loop-j.invariant c.loop-j-test.false"),
     ]
-    needs.append(("places-requires", " κs", broken(first)))
-    for i in range(1, calls):
-        needs.append((nth("places-requires", i + 1), " κs", f"(c .before .before .{called('places', i)} .ensures .ready, (lit≤ tt, lit≤ tt))"))
-    # what each call leaves, last to first
-    again = []
-    for i in reversed(range(calls)):
-        again.append(f"let c{i + 1} = " + ("c .before in" if i == calls - 1 else f"c{i + 2}{back(3)} in"))
-    chain = [f"c{i + 1} .{called('places', i + 1)} .ensures" for i in range(calls)]
-    again += ["let p = picked (c1 .before) in", "let l = p .before .before .before in"]
-    again += ["passed-lane (l .before .pre .1 .level) (l .loop .inv) (p .before .before .loop-test .taken) (p .pick .ensures)"]
-    again += [f"(then ({one})" for one in chain[:-1]] + [f"({chain[-1]})" + ")" * (calls - 1)]
-    needs += [
-        ("add-j", "", "omega arith"),
-        ("loop-less", "", "omega arith"),
-        ("loop-again", "", broken(again)),
-        ("same-length", "", "c .before .loop .inv .long"),
-        ("returns", "", f"passed-all (c{back(2)} .pre .1 .level) (c .before .loop .inv) (c .loop-test .left)"),
-    ]
-    return proof(f"level{m}", f"rows{m}_{g}", "lane after lane.", [use for use in uses if use], body, needs, " Inv-loop μ-loop")
+    return answers(f"level{m}", f"rows{m}_{g}", "lane after lane.", uses, given)
 
 
 def level(m):
-    """The passes of a level. It binds the table and the loan of it; then, of each pass, the loan of e, the call, and the loan's end."""
-    uses = [
-        "use mathlib.Core.Path.{refl, _∙_}" if MANY[m] < m else "use mathlib.Core.Path.{refl}",
-        "use lib.Dec.{lit≤}",
-        "use Rattle·itx_halving.proofs.Step.{none, all}",
-    ]
+    """The passes of a level: the first begins on what the caller gave, each other on what the one before it left."""
+    uses = ["use mathlib.Core.Path.{refl}", "use lib.Dec.{lit≤}", "use Rattle.itx_halving.proofs.Step.{none, all}"]
     if MANY[m] < m:
-        uses.append("use Rattle·itx_lanes·proofs.proofs.Passes.{once-more}")
-    calls = [f"rows{m}-{g}" for g in range(0, m, MANY[m])]
-    needs = [("table-requires", " κs", "tt")]
+        uses.append("use Rattle.itx_lanes.proofs.Passes.{once_more}")
+    calls = [f"rows{m}_{g}" for g in range(0, m, MANY[m])]
+    given = [("table-all-requires", "tt")]
     for i, call in enumerate(calls):
-        table = f"c{back(2 + 3 * i)} .table .ensures"
         if i:
-            answer = f"({table}, once-more (c .before .before .{calls[i - 1]} .ensures))"
+            answer = f"(c.table-all.ensures, once_more c.{calls[i - 1]}.ensures)"
         else:
-            answer = broken([
-                f"let s = c{back(3)} in (",
-                f"  {table},",
+            answer = "\n".join([
+                "(",
+                "  c.table-all.ensures,",
                 "  record {",
-                "    level = record { whole = refl; size = lit≤ tt; room = s .pre .1 };",
-                "    part = λ j h. none (s .pre .0 .sums j h);",
-                "    narrow = s .pre .0 .narrow;",
+                "    level = record { whole = refl; size = lit≤ tt; room = c.requires.1 };",
+                "    part = λ j h. none (c.requires.0.sums j h);",
+                "    narrow = c.requires.0.narrow;",
                 "  },",
                 ")",
             ])
-        needs.append((f"{call}-requires", " κs", answer))
-    # the length of e, the third of what a pass is given
-    long = lambda i: f"c{back(3 * (len(calls) - 1 - i) + 1)} .{calls[i]} .kept .1 .1 .0"
-    needs.append(("same-length", "", " ∙ ".join(long(i) for i in reversed(range(len(calls))))))
-    last = f"c .before .{calls[-1]} .ensures"
-    needs.append(("returns", "", f"record {{ sums = λ j h. all ({last} .part j h); narrow = {last} .narrow }}"))
-    return proof(f"level{m}", f"level{m}", "pass after pass.", uses, [], needs)
+        given.append((f"{call}-requires", answer))
+    last = f"c.{calls[-1]}.ensures"
+    given.append(("returns", f"record {{ sums = λ j h. all ({last}.part j h); narrow = {last}.narrow }}"))
+    return answers(f"level{m}", f"level{m}", "pass after pass.", uses, given)
 
 
 def files():
@@ -189,8 +166,10 @@ def files():
     for m in SIZES:
         yield CRATE / "src" / f"level{m}.rt", code(m)
         for g in range(0, m, MANY[m]):
-            yield proofs / f"level{m}" / f"rows{m}_{g}" / "Proof.antt", rows(m, g)
-        yield proofs / f"level{m}" / f"level{m}" / "Proof.antt", level(m)
+            here = proofs / f"level{m}" / f"rows{m}_{g}"
+            yield here / "Invariants.antt", rows_invariants(m, g)
+            yield here / "Answers.antt", rows(m, g)
+        yield proofs / f"level{m}" / f"level{m}" / "Answers.antt", level(m)
 
 
 def main():

@@ -7,7 +7,7 @@
 set -euo pipefail
 export LC_ALL=C
 stop() { echo "state.sh: $*" >&2; exit 2; }
-[ $# = 1 ] || stop "give one archive, as target/staticlib/libcapi.a"
+[ $# = 1 ] || stop "give one archive, as crates/capi/out/libcapi.a"
 [ -f "$1" ] || stop "no file $1"
 nm=${NM:-nm} objdump=${OBJDUMP:-objdump}
 for tool in "$nm" "$objdump"; do command -v "$tool" >/dev/null || stop "$tool is not on PATH"; done

@@ -35,20 +35,33 @@ def nearest(k, n):
     return 64 if k == 0 else round(64 * math.sqrt(2) * math.cos((2 * n + 1) * k * math.pi / 128))
 
 
+def filled(numbers, indent, notes):
+    """Numbers as `rt fmt` fills lines with them: 99 characters at most, and a new line behind a note, which isn't counted."""
+    line = ""
+    for i, z in enumerate(numbers):
+        if line and len(f"{line} {z},") > 99:
+            yield line
+            line = ""
+        line = f"{line} {z}," if line else f"{indent}{z},"
+        if i in notes:
+            yield f"{line} // {notes[i]}"
+            line = ""
+    if line:
+        yield line
+
+
 def code(rows):
-    """src/tm.rt: one number to a line, as `rt fmt` has it; the first of each row says which row."""
+    """src/tm.rt; the first number of each row says which row."""
     yield "// The 64 by 64 transform table, row after row. Written by tools/table.py; its rule is proved in proofs/Rule.antt."
     yield "pub const TM: [i8; 4096] = ["
-    for k, row in enumerate(rows):
-        yield f"    {row[0]}, // row {k}"
-        yield from (f"    {z}," for z in row[1:])
+    yield from filled([z for row in rows for z in row], "    ", {64 * k: f"row {k}" for k in range(64)})
     yield "];"
 
 
 def proof(rows):
     """proofs/Stored.antt: a row is four lines of 16 numbers."""
     yield "-- The 4,096 numbers that src/tm.rt stores, row after row. Written by tools/table.py. Assumes nothing."
-    yield "use mathlib.Core.List.{List, [], _∷_}"
+    yield "use mathlib.Core.List.{List, [], ◌∷◌}"
     yield "use lib.IntN.{ℤ, pos, negsuc}"
     yield ""
     yield "unfoldable pub stored : List ℤ"
@@ -64,16 +77,16 @@ def columns(rows):
     yield "// The sums of the table's columns, times 32768, for the sizes 32 and 64: what a line of inputs that are all 32768 gives. A number of 32 bits is"
     yield "// 65536 times its upper half, plus 32768, plus a rest of 16 bits with its sign, so a stage that sums upper halves and rests adds these."
     yield "// Written by tools/table.py; what they are is proved in proofs/ColumnSums.antt."
-    yield "ghost use mathlib.Core.Path.{_≡_};"
-    yield "ghost use Rattle·integers.specs.Lists.{tab};"
-    yield "ghost use Rattle·itx_table·specs.specs.Columns.{column};"
+    yield "ghost use Rattle.std.specs.Prelude.{◌≡◌};"
+    yield "ghost use Rattle.integers.specs.Lists.{tab};"
+    yield "ghost use Rattle.itx_table.specs.Columns.{column};"
     for size in (32, 64):
         yield ""
         yield f"pub fn columns{size}() -> [i32; {size}]"
-        yield f"    ensures {{ λ r. ⌜ r ≡ tab {size} (column {size}) ⌝ }}"
+        yield f"    ensures {{ result ≡ tab {size} (column {size}) }}"
         yield "{"
         yield "    ["
-        yield from (f"        {32768 * sum(row[n] for row in rows[:: 64 // size])}," for n in range(size))
+        yield from filled([32768 * sum(row[n] for row in rows[:: 64 // size]) for n in range(size)], "        ", {})
         yield "    ]"
         yield "}"
 

@@ -26,7 +26,7 @@ def turned(text, side):
 
 
 def owned(text):
-    return text.replace("Rattle·diff·proofs.proofs.diff.", "Rattle·satd·proofs.proofs.any.").replace("`diff::diff::", "`satd::any::")
+    return text.replace("Rattle.diff.proofs.diff.", "Rattle.satd.proofs.any.").replace("`diff::diff::", "`satd::any::")
 
 
 def files():
@@ -34,8 +34,8 @@ def files():
         mark = "//" if path.suffix == ".rt" else "--"
         for side in SIDES:
             yield Path(str(path).replace("tiles8", f"tiles{side}")), told(turned(path.read_text(), side), mark, "the tiles of 8 by 8")
-    path = CRATES / "diff" / "proofs" / "diff" / "any_rows" / "Proof.antt"
-    yield CRATE / "proofs" / "any" / "any_rows" / "Proof.antt", told(owned(path.read_text()), "--", "that of the crate diff")
+    for path in sorted((CRATES / "diff" / "proofs" / "diff" / "any_rows").glob("*.antt")):
+        yield CRATE / "proofs" / "any" / "any_rows" / path.name, told(owned(path.read_text()), "--", "that of the crate diff")
 
 
 def main():
