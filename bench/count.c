@@ -1,5 +1,5 @@
-/* Instructions executed by each export, counted exactly by the processor's trap flag: x86-64, without a C library, so that the toolchain's emulator
-   can run it on any machine. One line for each case: its name and the count, from the call to its return. With STACK it is the bytes of stack that the
+/* Instructions executed by each export, counted exactly by the processor's trap flag: x86-64, without a C library, so that
+   nothing but the archive and these cases is linked. One line for each case: its name and the count, from the call to its return. With STACK it is the bytes of stack that the
    call takes, by the lowest stack pointer of all its instructions, and a last line for the deepest. bench/count builds and runs it. */
 #include "tashvelun.h"
 

@@ -1,9 +1,10 @@
 /*
  * tashvelun.h: EVC's inverse transform and distortion, as proved functions.
  *
- * Link with libcapi.a, which `rt staticlib capi` proves and writes to target/staticlib (x86-64):
+ * Link with libcapi.a, which `rt lib --cpu x86-64` in crates/capi proves and writes to
+ * crates/capi/out, for any x86-64 processor:
  *
- *     cc program.c -Iinclude -Ltarget/staticlib -lcapi
+ *     cc program.c -Iinclude -Lcrates/capi/out -lcapi
  *
  * The promise. Every function ends and answers a number at every input; where a struct tv_report comes back, its
  * `answer` is that number. 0 says that the call is accepted and done. Any other number is a refusal, and then no buffer
