@@ -1,15 +1,16 @@
 -- What it is for the numbers of a report to break the rule of its reason: one statement, with a case for each reason. Document 02, One.
 -- It holds of every report of a job and of a sub-block: proofs/Reports.antt. Assumes nothing.
-use Rattle.std.specs.Prelude.{ℕ, ◌≤◌, ◌<◌, ◌≡◌, ◌⊎◌, true, cond, List, [], ◌∷◌, ◌++◌, ltb}
+use Rattle.std.specs.Prelude.{ℕ, ◌≤◌, ◌<◌, ◌≡◌, ◌⊎◌, true, cond, List, [], ◌∷◌, ◌++◌, ltb, Option, Result, Ok, Err, IsSomeAnd}
 use Rattle.order.specs.Positions.{reach, has, shared}
+use Rattle.std.specs.Option.{option_map}
 use Rattle.evc.specs.declared.Job.{Job}
+use Rattle.evc.specs.declared.Part.{Part}
 use Rattle.evc.specs.declared.SubBlock.{SubBlock}
 use Rattle.evc.specs.declared.Component.{Component}
 use Rattle.evc.specs.declared.Component.TheVariants.{Y, U, «V»}
 use Rattle.evc.specs.declared.Refusal.{Refusal}
 use Rattle.evc.specs.declared.Refusal.TheVariants.{Size, Qp, Shift, Depth, Area, Overlap, Sample}
 use Rattle.evc.specs.declared.Report.{Report}
-use Rattle.evc.specs.declared.Report.TheVariants.{None, Broken}
 use Rattle.evc.specs.Tests.{outside}
 use Rattle.evc.specs.Jobs.{width, height, pitch, area}
 use Rattle.evc.specs.SubBlocks.{luma, chroma, given}
@@ -27,20 +28,18 @@ pub record Asked : Type 0 where
 abbrev pub alone : Job → Asked
 alone j = record { logw = j.log2_w; logh = j.log2_h; lo = 1; hi = 6; job = j; earlier = [] }
 
--- a component of a sub-block, behind those that are flagged
-abbrev pub asked : SubBlock → Component → Asked
-asked s Y = record { logw = s.log2_w; logh = s.log2_h; lo = 1; hi = 6; job = luma s s.y; earlier = [] }
-asked s U =
-    record { logw = s.log2_w; logh = s.log2_h; lo = 2; hi = 7; job = chroma s s.u; earlier = given s.y.flag (luma s s.y ∷ []) }
-asked s «V» =
-    record {
-      logw = s.log2_w;
-      logh = s.log2_h;
-      lo = 2;
-      hi = 7;
-      job = chroma s s.v;
-      earlier = given s.y.flag (luma s s.y ∷ []) ++ given s.u.flag (chroma s s.u ∷ []);
-    }
+-- the components of a sub-block, chroma's behind earlier jobs
+abbrev pub luma_asked : SubBlock → Part → Asked
+luma_asked s c = record { logw = s.log2_w; logh = s.log2_h; lo = 1; hi = 6; job = luma s c; earlier = [] }
+
+abbrev pub chroma_asked : SubBlock → List Job → Part → Asked
+chroma_asked s js c = record { logw = s.log2_w; logh = s.log2_h; lo = 2; hi = 7; job = chroma s c; earlier = js }
+
+-- what was asked of a component, behind those that are flagged; nothing of one that isn't flagged
+abbrev pub asked : SubBlock → Component → Option Asked
+asked s Y = option_map (luma_asked s) s.y
+asked s U = option_map (chroma_asked s (given s.y (λ c. luma s c ∷ []))) s.u
+asked s «V» = option_map (chroma_asked s (given s.y (λ c. luma s c ∷ []) ++ given s.u (λ c. chroma s c ∷ []))) s.v
 
 -- x is below the limit lo, or above the limit hi
 abbrev pub Past : ℕ → ℕ → ℕ → ℕ → Type 0
@@ -68,7 +67,7 @@ Breaks n a Overlap x limit = SharesFirst a.earlier a.job x limit
 Breaks n a Depth x limit = ⊥
 Breaks n a Sample x limit = ⊥
 
--- a report is justified where its numbers break the rule of its reason, of the component that it names
-abbrev pub Justified : ℕ → (Component → Asked) → Report → Type 0
-Justified n ask None = Unit {0}
-Justified n ask (Broken c r x limit) = Breaks n (ask c) r x limit
+-- a report is justified where it names what was asked, and its numbers break the rule of its reason there
+abbrev pub Justified : ℕ → (Component → Option Asked) → Result (Unit {0}) Report → Type 0
+Justified n ask (Ok done) = Unit {0}
+Justified n ask (Err e) = IsSomeAnd (ask e.component) (λ a. Breaks n a e.refusal e.given e.limit)

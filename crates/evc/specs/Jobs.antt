@@ -1,6 +1,6 @@
 -- The block job: dequantize an area of the buffer, stage one, stage two, back into the same area. Document 01, "Numbers of the domain"
 -- and "The two stages"; document 02, One. Assumes nothing.
-use Rattle.std.specs.Prelude.{ℕ, ◌^◌, List, [], ◌∷◌, map, ltb, ℤ, pos}
+use Rattle.std.specs.Prelude.{ℕ, ◌^◌, List, [], ◌∷◌, map, ltb, ℤ, pos, Result}
 use Rattle.order.specs.Positions.{rows, reach}
 use Rattle.order.specs.Jobs.{Kind, after}
 use Rattle.evc.specs.declared.Job.{Job}
@@ -60,7 +60,7 @@ unfoldable pub job_number : ℕ → Job → ℕ
 job_number n j = first (tests_of_job n j)
 
 -- a job's component is Y
-unfoldable pub report_of_job : ℕ → Job → Report
+unfoldable pub report_of_job : ℕ → Job → Result (Unit {0}) Report
 report_of_job n j = report (named Y (job_entries n j))
 
 -- what the job makes of its samples: stage one has the size height and width lines, stage two the size width and height lines

@@ -1,10 +1,9 @@
 -- A refused job or sub-block reports why. Document 02, One. An entry of such a call's list of tests also has the number that was handed in and the
 -- limit that it broke; answer and report are both read from the first broken entry. Assumes nothing.
-use Rattle.std.specs.Prelude.{ℕ, cond, List, [], ◌∷◌, map, ltb}
+use Rattle.std.specs.Prelude.{ℕ, cond, List, [], ◌∷◌, map, ltb, Result, Ok, Err}
 use Rattle.evc.specs.declared.Component.{Component}
 use Rattle.evc.specs.declared.Refusal.{Refusal}
 use Rattle.evc.specs.declared.Report.{Report}
-use Rattle.evc.specs.declared.Report.TheVariants.{None, Broken}
 use Rattle.evc.specs.Answers.{number, SubReply, accepted, refused_at}
 use Rattle.evc.specs.Tests.{Test, ◌when◌, outside}
 
@@ -38,7 +37,11 @@ abbrev pub first_named : List Named → SubReply
 first_named [] = accepted
 first_named (t ∷ ts) = cond t.entry.test.broken (refused_at t.who (number t.entry.test.refusal)) (first_named ts)
 
--- the report: all that the same entry says; none where none is broken
-abbrev pub report : List Named → Report
-report [] = None
-report (t ∷ ts) = cond t.entry.test.broken (Broken t.who t.entry.test.refusal t.entry.given t.entry.limit) (report ts)
+-- the report of a broken entry: all that it says
+abbrev pub report_at : Named → Report
+report_at t = record { component = t.who; refusal = t.entry.test.refusal; given = t.entry.given; limit = t.entry.limit }
+
+-- the report: that of the same entry; none where none is broken
+abbrev pub report : List Named → Result (Unit {0}) Report
+report [] = Ok tt
+report (t ∷ ts) = cond t.entry.test.broken (Err (report_at t)) (report ts)

@@ -1,6 +1,6 @@
 -- The sub-block call: up to three jobs on one buffer, for those of Y, U and V that are flagged. Document 01, "Refusal numbers" and
 -- "Numbers of the domain"; document 02, One. Assumes nothing.
-use Rattle.std.specs.Prelude.{ℕ, zero, suc, ◌-◌, Bool, true, false, ◌&&◌, List, [], ◌∷◌, ◌++◌, length, ℤ}
+use Rattle.std.specs.Prelude.{ℕ, zero, suc, ◌-◌, Bool, true, false, List, [], ◌∷◌, ◌++◌, length, ℤ, Option, Some, None, Result}
 use Rattle.order.specs.Positions.{shared}
 use Rattle.order.specs.Jobs.{jobs}
 use Rattle.evc.specs.declared.Job.{Job}
@@ -49,36 +49,48 @@ lowest (p ∷ ps) = p
 abbrev pub overlap : Job → Job → Entry
 overlap j k = record { test = Overlap when is_some (shared (area j) (area k)); given = k.start; limit = lowest (shared (area j) (area k)) }
 
+-- ---- a component is flagged where it is there: of one that isn't, and of a pair that isn't, nothing
+abbrev pub given : {A : Type 0} → Option Part → (Part → List A) → List A
+given None f = []
+given (Some c) f = f c
+
+abbrev pub both : {A : Type 0} → Option Part → Option Part → (Part → Part → List A) → List A
+both a b f = given a (λ c. given b (f c))
+
 -- ---- the call's tests, each with the component that it names
-abbrev pub given : {A : Type 0} → Bool → List A → List A
-given true l = l
-given false l = []
+abbrev pub pair_yu : SubBlock → List Entry
+pair_yu s = both s.y s.u (λ c d. overlap (luma s c) (chroma s d) ∷ [])
+
+abbrev pub pair_yv : SubBlock → List Entry
+pair_yv s = both s.y s.v (λ c d. overlap (luma s c) (chroma s d) ∷ [])
+
+abbrev pub pair_uv : SubBlock → List Entry
+pair_uv s = both s.u s.v (λ c d. overlap (chroma s c) (chroma s d) ∷ [])
 
 -- each flagged component by itself, then the pairs of flagged ones, of which the later is named
 abbrev pub tests_of_sub : ℕ → SubBlock → List Named
 tests_of_sub n s =
-    given s.y.flag (named Y (luma_entries n s s.y))
-    ++ (given s.u.flag (named U (chroma_entries n s s.u))
-    ++ (given s.v.flag (named «V» (chroma_entries n s s.v))
-    ++ (given (s.y.flag && s.u.flag) (named U (overlap (luma s s.y) (chroma s s.u) ∷ []))
-    ++ (given (s.y.flag && s.v.flag) (named «V» (overlap (luma s s.y) (chroma s s.v) ∷ []))
-    ++ given (s.u.flag && s.v.flag) (named «V» (overlap (chroma s s.u) (chroma s s.v) ∷ []))))))
+    named Y (given s.y (luma_entries n s))
+    ++ (named U (given s.u (chroma_entries n s))
+    ++ (named «V» (given s.v (chroma_entries n s))
+    ++ (named U (pair_yu s)
+    ++ (named «V» (pair_yv s)
+    ++ named «V» (pair_uv s)))))
 
 unfoldable pub sub_reply : ℕ → SubBlock → SubReply
 sub_reply n s = first_named (tests_of_sub n s)
 
-unfoldable pub report_of_sub : ℕ → SubBlock → Report
+unfoldable pub report_of_sub : ℕ → SubBlock → Result (Unit {0}) Report
 report_of_sub n s = report (tests_of_sub n s)
 
--- one step of the same, for functions that test one component: a flagged component's refusal n, unless that is 0, comes before the rest's answer
-abbrev pub or_else : Bool → Component → ℕ → SubReply → SubReply
-or_else false c n rest = rest
-or_else true c zero rest = rest
-or_else true c (suc n) rest = refused_at c (suc n)
+-- one step of the same, for functions that test one component: its refusal n, unless that is 0, comes before the rest's answer
+abbrev pub or_else : Component → ℕ → SubReply → SubReply
+or_else c zero rest = rest
+or_else c (suc n) rest = refused_at c (suc n)
 
 -- ---- the jobs of the flagged components, and the buffer at the end: an accepted call does them, a refused one nothing
 abbrev pub flagged : SubBlock → List Job
-flagged s = given s.y.flag (luma s s.y ∷ []) ++ (given s.u.flag (chroma s s.u ∷ []) ++ given s.v.flag (chroma s s.v ∷ []))
+flagged s = given s.y (λ c. luma s c ∷ []) ++ (given s.u (λ c. chroma s c ∷ []) ++ given s.v (λ c. chroma s c ∷ []))
 
 abbrev pub when_accepted : {A : Type 0} → SubReply → A → A → A
 when_accepted accepted x y = x

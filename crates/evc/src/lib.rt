@@ -1,8 +1,9 @@
-// What code and definitions share: the job, the sub-block, the components, the refusals and the answers.
-// Their readings, the paper's numbers and values, stand in specs/.
+// What code and definitions share: the job, the sub-block, the components, the refusals and what is told beside them. An answer is a `Result`: what the
+// call gives, or why it is refused. The readings, the paper's numbers and values, stand in specs/.
 #![tactic(auto)]
 
 ghost use Rattle.std.specs.Prelude.{◌≡◌};
+ghost use Rattle.evc.specs.Answers as reading;
 ghost use Rattle.evc.specs.Jobs.{job_of};
 
 // One block job: where its samples start in the buffer, the logarithms of its sides, and its numbers.
@@ -43,12 +44,11 @@ pub fn job_of(
 // What a component of a sub-block has of its own.
 #[derive(Clone, Copy)]
 pub struct Part {
-    pub flag: bool,
     pub start: usize,
     pub qp: u8,
 }
 
-// A sub-block call: luma's logarithms, the numbers that all components share, and the components.
+// A sub-block call: luma's logarithms, the numbers that all components share, and the components that are flagged.
 #[derive(Clone, Copy)]
 pub struct SubBlock {
     pub log2_w: usize,
@@ -56,12 +56,12 @@ pub struct SubBlock {
     pub offset: i32,
     pub dq_shift: u8,
     pub it_shift: u8,
-    pub y: Part,
-    pub u: Part,
-    pub v: Part,
+    pub y: Option<Part>,
+    pub u: Option<Part>,
+    pub v: Option<Part>,
 }
 
-#[derive(Clone, Copy)]
+#[derive(Clone, Copy, Debug, PartialEq, Eq)]
 pub enum Component {
     Y,
     U,
@@ -69,7 +69,7 @@ pub enum Component {
 }
 
 // Why a call is refused, in the order of the paper's numbers.
-#[derive(Clone, Copy)]
+#[derive(Clone, Copy, Debug, PartialEq, Eq)]
 pub enum Refusal {
     Size,
     Qp,
@@ -80,58 +80,47 @@ pub enum Refusal {
     Sample,
 }
 
-// What the tests of a call say, before anything is done: none is broken, or which refusal the first broken one gives.
-#[derive(Clone, Copy)]
-pub enum Verdict {
-    Passed,
-    Broken(Refusal),
-}
-
-// The same of a sub-block call: a broken test names its component.
-#[derive(Clone, Copy)]
-pub enum SubVerdict {
-    Passed,
-    Broken(Component, Refusal),
-}
-
-// The answer of a call that leaves its result in a buffer.
-#[derive(Clone, Copy)]
-pub enum Answer {
-    Done,
-    Refused(Refusal),
-}
-
-// The answer of a sub-block call: a refusal names its component.
-#[derive(Clone, Copy)]
-pub enum SubAnswer {
-    Done,
-    Refused(Component, Refusal),
+// Why a sub-block call is refused: the component whose test is broken, and what that test gives.
+#[derive(Clone, Copy, Debug, PartialEq, Eq)]
+pub struct SubRefusal {
+    pub component: Component,
+    pub refusal: Refusal,
 }
 
 // What a job or a sub-block that is refused tells of it: the component, why, the number that was handed in and the limit that it broke.
-#[derive(Clone, Copy)]
-pub enum Report {
-    None,
-    Broken(Component, Refusal, usize, usize),
+#[derive(Clone, Copy, Debug, PartialEq, Eq)]
+pub struct Report {
+    pub component: Component,
+    pub refusal: Refusal,
+    pub given: usize,
+    pub limit: usize,
 }
 
-// The scale of a qp.
-#[derive(Clone, Copy)]
-pub enum Scale {
-    Value(i32),
-    Refused(Refusal),
+// A component's number, and a refusal's.
+impl From<Component> for u8 {
+    ghost from_gives = { λ c n. n ≡ reading.component_number c };
+
+    fn from(c: Component) -> u8 {
+        match c {
+            Component::Y => 0,
+            Component::U => 1,
+            Component::V => 2,
+        }
+    }
 }
 
-// A sum of absolute differences, or of absolute coefficients.
-#[derive(Clone, Copy)]
-pub enum Distortion {
-    Value(u32),
-    Refused(Refusal),
-}
+impl From<Refusal> for u8 {
+    ghost from_gives = { λ r n. n ≡ reading.number r };
 
-// A sum of squared differences.
-#[derive(Clone, Copy)]
-pub enum SquaredDistortion {
-    Value(i64),
-    Refused(Refusal),
+    fn from(r: Refusal) -> u8 {
+        match r {
+            Refusal::Size => 1,
+            Refusal::Qp => 2,
+            Refusal::Shift => 3,
+            Refusal::Depth => 4,
+            Refusal::Area => 5,
+            Refusal::Overlap => 6,
+            Refusal::Sample => 7,
+        }
+    }
 }
