@@ -9,14 +9,14 @@ ghost use Rattle.integers.specs.Z as Z;
 pub fn min_i64(a: i64, b: i64) -> i64
     ensures { result ≡ Z.min_z a b }
 {
-    if b < a { b } else { a }
+    a.min(b)
 }
 
 // The larger of two.
 pub fn max_i64(a: i64, b: i64) -> i64
     ensures { result ≡ Z.max_z a b }
 {
-    if a < b { b } else { a }
+    a.max(b)
 }
 
 // The nearest number that an i16 holds.
@@ -47,7 +47,5 @@ pub fn clip32(x: i64) -> i32
 pub fn abs_i32(x: i32) -> u32
     ensures { result ≡ nat_abs x }
 {
-    let y = x as i64;
-    let minus = 0 - y;
-    max_i64(y, minus) as u32
+    x.unsigned_abs()
 }
