@@ -6,6 +6,6 @@ mod answers;
 mod reports;
 mod sub_blocks;
 
-pub use answers::{answer_number, tell_distortion, tell_squared, tell_sub_block};
+pub use answers::{answer_number, tell, tell_sub_block};
 pub use reports::{TvReport, tell_report};
 pub use sub_blocks::sub_block;

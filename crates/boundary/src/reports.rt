@@ -2,7 +2,6 @@
 ghost use Rattle.std.specs.Prelude.{◌≡◌};
 ghost use Rattle.boundary.specs.Told.{report_told};
 
-use crate::answers::{component_number, refusal_number};
 use evc::Report;
 
 // All 0 where the call is accepted.
@@ -15,21 +14,21 @@ pub struct TvReport {
     pub component: u8,
 }
 
-pub fn tell_report(r: Report) -> TvReport
+pub fn tell_report(r: Result<(), Report>) -> TvReport
     ensures { result ≡ report_told r }
 {
     match r {
-        Report::None => TvReport {
+        Ok(()) => TvReport {
             given: 0,
             limit: 0,
             answer: 0,
             component: 0,
         },
-        Report::Broken(c, reason, given, limit) => TvReport {
-            given: given as u64,
-            limit: limit as u64,
-            answer: refusal_number(reason),
-            component: component_number(c),
+        Err(e) => TvReport {
+            given: e.given as u64,
+            limit: e.limit as u64,
+            answer: u8::from(e.refusal),
+            component: u8::from(e.component),
         },
     }
 }

@@ -4,13 +4,12 @@ ghost use Rattle.boundary.specs.Given.{part_of, sub_block_of};
 
 use evc::{Part, SubBlock};
 
-fn part(flag: u8, start: usize, qp: u8) -> Part
+fn part(flag: u8, start: usize, qp: u8) -> Option<Part>
     ensures { result ≡ part_of flag start qp }
 {
-    Part {
-        flag: flag != 0,
-        start: start,
-        qp: qp,
+    match flag {
+        0 => None,
+        _ => Some(Part { start, qp }),
     }
 }
 
@@ -33,11 +32,11 @@ pub fn sub_block(
     ensures { result ≡ sub_block_of log2_w log2_h offset dq_shift it_shift (part_of flag_y start_y qp_y) (part_of flag_u start_u qp_u) (part_of flag_v start_v qp_v) }
 {
     SubBlock {
-        log2_w: log2_w,
-        log2_h: log2_h,
-        offset: offset,
-        dq_shift: dq_shift,
-        it_shift: it_shift,
+        log2_w,
+        log2_h,
+        offset,
+        dq_shift,
+        it_shift,
         y: part(flag_y, start_y, qp_y),
         u: part(flag_u, start_u, qp_u),
         v: part(flag_v, start_v, qp_v),
