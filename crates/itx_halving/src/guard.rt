@@ -5,7 +5,6 @@ ghost use Rattle.evc.specs.Stages.{stage_two_number};
 ghost use Rattle.itx_halving.specs.Taken.{takes};
 
 use crate::tests::stage_two;
-use evc::Verdict;
 
 // The limits are literals where this is called, so that a compiler makes each crate its own test. Stage one's shift is 0.
 pub fn takes(
@@ -23,8 +22,5 @@ pub fn takes(
     if (log2_size < lo) | (hi < log2_size) | (log2_line < least) {
         return false;
     }
-    if let Verdict::Broken(_) = stage_two(n, m, log2_size, log2_line, shift) {
-        return false;
-    }
-    true
+    stage_two(n, m, log2_size, log2_line, shift).is_ok()
 }
