@@ -3,17 +3,17 @@
 #![tactic(auto)]
 
 ghost use Rattle.std.specs.Prelude.{◌≡◌, pos};
-ghost use Rattle.evc.specs.Answers.{scale_reading, value_or};
+ghost use Rattle.evc.specs.Answers.{reading, value_or};
 ghost use Rattle.evc.specs.Dequantizer.{scale_reply};
 
-use evc::{Refusal, Scale};
+use evc::Refusal;
 
 #[tactic(auto, using(crate::proofs::Scales::qp_refused))]
-pub fn scale(qp: u8) -> Scale
-    ensures { scale_reading result ≡ scale_reply qp }
+pub fn scale(qp: u8) -> Result<i32, Refusal>
+    ensures { reading result ≡ scale_reply qp }
 {
     if qp > 63 {
-        return Scale::Refused(Refusal::Qp);
+        return Err(Refusal::Qp);
     }
     let number: i32 = match qp % 6 {
         0 => 40,
@@ -23,16 +23,12 @@ pub fn scale(qp: u8) -> Scale
         4 => 64,
         _ => 71,
     };
-    Scale::Value(number << (qp / 6))
+    Ok(number << (qp / 6))
 }
 
 // The scale of a qp that has passed its test; of any other, which no accepted job has, 0.
 pub fn scale_of(qp: u8) -> i32
     ensures { result ≡ value_or (scale_reply qp) (pos 0) }
 {
-    let known = scale(qp);
-    match known {
-        Scale::Value(v) => v,
-        Scale::Refused(_) => 0,
-    }
+    scale(qp).unwrap_or(0)
 }

@@ -1,2 +1,0 @@
--- The report of a component, test by test, and of a sub-block, component by component.
-pub mod Laws
