@@ -4,7 +4,8 @@ ghost use Rattle.std.specs.Prelude.{◌≡◌, length};
 ghost use Rattle.evc.specs.Answers.{answer_number};
 ghost use Rattle.evc.specs.Dequantizer.{dquant_number, dquant_exit};
 
-use evc::{Answer, Refusal};
+use crate::area::Dequantizer;
+use evc::Refusal;
 
 #[tactic(auto, using(crate::proofs::Refused::shift_number, crate::proofs::Refused::shift_exit))]
 pub fn evc_dquant(
@@ -14,21 +15,26 @@ pub fn evc_dquant(
     scale: i32,
     offset: i32,
     shift: u8,
-) -> Answer
+) -> Result<(), Refusal>
     ensures answer { answer_number result ≡ dquant_number (length coef.old) log2_w log2_h shift }
     ensures exit { coef.new ≡ dquant_exit log2_w log2_h scale offset shift coef.old }
 {
     if (6 < log2_w) | (6 < log2_h) {
-        return Answer::Refused(Refusal::Size);
+        return Err(Refusal::Size);
     }
     if 31 < shift {
-        return Answer::Refused(Refusal::Shift);
+        return Err(Refusal::Shift);
     }
     let n = 1usize << (log2_w + log2_h);
     let len = coef.len();
     if len < n {
-        return Answer::Refused(Refusal::Area);
+        return Err(Refusal::Area);
     }
-    crate::area::each(&mut coef[..n], scale, offset, shift);
-    Answer::Done
+    Dequantizer {
+        scale,
+        offset,
+        shift,
+    }
+    .each(&mut coef[..n]);
+    Ok(())
 }
