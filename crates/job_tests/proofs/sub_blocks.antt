@@ -1,2 +1,2 @@
--- The answer of a sub-block as the code finds it: component by component, then the pairs.
-pub mod SubTests
+-- The tests of a sub-block, group by group.
+pub mod Groups

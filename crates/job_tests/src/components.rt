@@ -1,16 +1,9 @@
 // The job of each component. Document 01, "Numbers of the domain".
 // Differs from the Rust in: chroma's log of a luma log 0 is 0 and does not underflow; a job of that log is refused.
-ghost use Rattle.std.specs.Prelude.{◌≡◌, ◌-◌};
+ghost use Rattle.std.specs.Prelude.{◌≡◌};
 ghost use Rattle.evc.specs.SubBlocks.{luma, chroma};
 
 use evc::{Job, Part, SubBlock, job_of};
-
-// One less, and 0 for 0.
-fn less(log: usize) -> usize
-    ensures { result ≡ log - 1 }
-{
-    if log == 0 { 0 } else { log - 1 }
-}
 
 pub fn luma_job(call: SubBlock, part: Part) -> Job
     ensures { result ≡ luma call part }
@@ -31,8 +24,8 @@ pub fn chroma_job(call: SubBlock, part: Part) -> Job
 {
     job_of(
         part.start,
-        less(call.log2_w),
-        less(call.log2_h),
+        call.log2_w.saturating_sub(1),
+        call.log2_h.saturating_sub(1),
         part.qp,
         call.offset,
         call.dq_shift,

@@ -6,10 +6,8 @@
 mod components;
 mod jobs;
 mod pairs;
-mod reports;
 mod sub_blocks;
 
 pub use components::{chroma_job, luma_job};
-pub use jobs::of_job;
-pub use reports::{job_report, sub_block_report};
-pub use sub_blocks::of_sub_block;
+pub use jobs::{job_report, of_job};
+pub use sub_blocks::{of_sub_block, sub_block_report};

@@ -1,14 +1,12 @@
--- `job_tests::jobs::of_job` meets its contract: each return is found by the laws of its tests (jobs/Laws.antt); a job that passed the first has an area. Assumes nothing.
-use mathlib.Core.Path.{◌≡◌}
-use mathlib.Core.Bool.{false, ◌||◌}
-use Rattle.integers.proofs.Bools.{or-neither}
-use Rattle.evc.specs.Tests.{outside}
-use Rattle.evc.proofs.Tests.{outside-no}
+-- `job_tests::jobs::of_job` meets its contract: its number is the report's. Assumes nothing.
+use mathlib.Core.Path.{ap, ◌∙◌}
+use borrow.Author.Rules.{rules}
+use Rattle.evc.specs.Answers.{report_number}
+use Rattle.evc.proofs.Reports.{job-report-number}
+use Rattle.job_tests.proofs.Chain.{refusal-alone}
 use Rattle.job_tests.proofs.jobs.of_job.Goals as goal
 
-pub past_end-requires : goal.past_end-requires
-past_end-requires c =
-    let j = c.args.job in
-    let s : outside 1 6 j.log2_w || outside 1 6 j.log2_h ≡ false = c.if-job.false in
-    let o = or-neither (outside 1 6 j.log2_w) (outside 1 6 j.log2_h) s in
-    record { log2_w_bound = (outside-no 1 6 j.log2_w o.0).1; log2_h_bound = (outside-no 1 6 j.log2_h o.1).1 }
+pub returns : goal.returns
+returns c =
+    refusal-alone c.job_report.result c.map_err.result (λ e f p. search rules) c.map_err.ensures.cases
+    ∙ ap report_number c.job_report.ensures ∙ job-report-number c.args.len c.args.job

@@ -1,2 +1,0 @@
--- The number of a job, test by test.
-pub mod Laws
