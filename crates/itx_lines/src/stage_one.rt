@@ -7,49 +7,24 @@ ghost use Rattle.evc.specs.Table.{tm};
 ghost use Rattle.evc.specs.Stages.{stage_one_at};
 ghost use Rattle.itx_halving.specs.Lines.{StageRoom};
 ghost use Rattle.itx_halving.specs.Taken.{takes_one, done_one};
+ghost use Rattle.itx_lines.specs.Sizes.{Size};
 
-use super::built_in::{built_in16, built_in32, built_in64};
+use super::built_in::built_in;
 use super::gather::gather_i16;
 use super::store::store_i32;
 
-// All lines, one after the other, of each size.
-fn itx_pb16b0(src: &[i16], dst: &mut [i32], l: usize)
-    requires { StageRoom src.now dst.old 16 l }
-    ensures { dst.new ≡ written (16 * l) (stage_one_at (tm 16) 16 l src.now) dst.old }
-{
-    for j in 0..l {
-        let mut x = [0i64; 16];
-        gather_i16(src, &mut x, 16, l, j);
-        let mut e = [0i64; 16];
-        built_in16(&x, &mut e);
-        store_i32(&e, dst, 16, j);
-    }
-}
-
-fn itx_pb32b0(src: &[i16], dst: &mut [i32], l: usize)
-    requires { StageRoom src.now dst.old 32 l }
-    ensures { dst.new ≡ written (32 * l) (stage_one_at (tm 32) 32 l src.now) dst.old }
-{
-    for j in 0..l {
-        let mut x = [0i64; 32];
-        gather_i16(src, &mut x, 32, l, j);
-        let mut e = [0i64; 32];
-        built_in32(&x, &mut e);
-        store_i32(&e, dst, 32, j);
-    }
-}
-
-fn itx_pb64b0(src: &[i16], dst: &mut [i32], l: usize)
-    requires { StageRoom src.now dst.old 64 l }
-    ensures { dst.new ≡ written (64 * l) (stage_one_at (tm 64) 64 l src.now) dst.old }
+// All lines of a size, one after the other.
+fn lines<const N: usize>(src: &[i16], dst: &mut [i32], l: usize)
+    requires { Size N × StageRoom src.now dst.old N l }
+    ensures { dst.new ≡ written (N * l) (stage_one_at (tm N) N l src.now) dst.old }
 {
     let t = itx_table::table();
     for j in 0..l {
-        let mut x = [0i64; 64];
-        gather_i16(src, &mut x, 64, l, j);
-        let mut e = [0i64; 64];
-        built_in64(&t, &x, &mut e);
-        store_i32(&e, dst, 64, j);
+        let mut x = [0i64; N];
+        gather_i16(src, &mut x, N, l, j);
+        let mut e = [0i64; N];
+        built_in(&t, &x, &mut e);
+        store_i32(&e, dst, N, j);
     }
 }
 
@@ -61,9 +36,9 @@ pub fn itxb0(src: &[i16], dst: &mut [i32], log2_size: usize, log2_line: usize) -
     if itx_halving::takes(4, 6, 0, src.len(), dst.len(), log2_size, log2_line, 0) {
         let l = 1usize << log2_line;
         match log2_size {
-            4 => itx_pb16b0(src, dst, l),
-            5 => itx_pb32b0(src, dst, l),
-            _ => itx_pb64b0(src, dst, l),
+            4 => lines::<16>(src, dst, l),
+            5 => lines::<32>(src, dst, l),
+            _ => lines::<64>(src, dst, l),
         }
         return true;
     }

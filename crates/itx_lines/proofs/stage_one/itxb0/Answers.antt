@@ -1,6 +1,7 @@
 -- `itx_lines::stage_one::itxb0` meets its contract: by its lines where the guard holds. Assumes nothing.
-use mathlib.Core.Path.{◌≡◌, sym, ◌∙◌}
+use mathlib.Core.Path.{◌≡◌, refl, sym, ◌∙◌}
 use mathlib.Core.Bool.{true}
+use Rattle.std.proofs.Common.{inl, inr}
 use mathlib.Core.List.{List}
 use Prim.Native.Nat.{ℕ, ◌*◌, ◌^◌, ◌%◌}
 use native.Mathlib.Omega.{arith}
@@ -48,26 +49,26 @@ module _ (c : Then-takes) where
 pub overflow_shl-l : goal.overflow_shl-l
 overflow_shl-l c = omega (arith, (known c).line-most)
 
-pub itx_pb16b0-requires : goal.itx_pb16b0-requires
-itx_pb16b0-requires c = room (goal.at.itx_pb16b0-requires c).Then-takes 4 c.in-4.is
+pub lines-requires : goal.lines-requires
+lines-requires c = (inl refl, room (goal.at.lines-requires c).Then-takes 4 c.in-4.is)
 
-pub itx_pb32b0-requires : goal.itx_pb32b0-requires
-itx_pb32b0-requires c = room (goal.at.itx_pb32b0-requires c).Then-takes 5 c.in-5.is
+pub lines-requires-in-5 : goal.lines-requires-in-5
+lines-requires-in-5 c = (inr (inl refl), room (goal.at.lines-requires-in-5 c).Then-takes 5 c.in-5.is)
 
-pub itx_pb64b0-requires : goal.itx_pb64b0-requires
-itx_pb64b0-requires c = room (goal.at.itx_pb64b0-requires c).Then-takes 6 (omega (arith, (known (goal.at.itx_pb64b0-requires c).Then-takes).size-least, (known (goal.at.itx_pb64b0-requires c).Then-takes).size-most))
+pub lines-requires-in_default : goal.lines-requires-in_default
+lines-requires-in_default c = (inr (inr refl), room (goal.at.lines-requires-in_default c).Then-takes 6 (omega (arith, (known (goal.at.lines-requires-in_default c).Then-takes).size-least, (known (goal.at.lines-requires-in_default c).Then-takes).size-most)))
 
 pub returns-in-4 : goal.returns-in-4
 returns-in-4 c =
-    let both = done (goal.at.returns-in-4 c).Then-takes 4 c.in-4.is c.itx_pb16b0.ensures in record { did = both.0; exit = both.1 }
+    let both = done (goal.at.returns-in-4 c).Then-takes 4 c.in-4.is c.lines.ensures in record { did = both.0; exit = both.1 }
 
 pub returns-in-5 : goal.returns-in-5
 returns-in-5 c =
-    let both = done (goal.at.returns-in-5 c).Then-takes 5 c.in-5.is c.itx_pb32b0.ensures in record { did = both.0; exit = both.1 }
+    let both = done (goal.at.returns-in-5 c).Then-takes 5 c.in-5.is c.lines-in-5.ensures in record { did = both.0; exit = both.1 }
 
 pub returns-in_default : goal.returns-in_default
 returns-in_default c =
-    let both = done (goal.at.returns-in_default c).Then-takes 6 (omega (arith, (known (goal.at.returns-in_default c).Then-takes).size-least, (known (goal.at.returns-in_default c).Then-takes).size-most)) c.itx_pb64b0.ensures in record { did = both.0; exit = both.1 }
+    let both = done (goal.at.returns-in_default c).Then-takes 6 (omega (arith, (known (goal.at.returns-in_default c).Then-takes).size-least, (known (goal.at.returns-in_default c).Then-takes).size-most)) c.lines-in_default.ensures in record { did = both.0; exit = both.1 }
 
 pub returns : goal.returns
 returns c =

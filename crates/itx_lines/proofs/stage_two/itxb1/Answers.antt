@@ -1,6 +1,7 @@
 -- `itx_lines::stage_two::itxb1` meets its contract: by its lines where the guard holds. Assumes nothing.
-use mathlib.Core.Path.{◌≡◌, sym, ◌∙◌}
+use mathlib.Core.Path.{◌≡◌, refl, sym, ◌∙◌}
 use mathlib.Core.Bool.{true}
+use Rattle.std.proofs.Common.{inl, inr}
 use mathlib.Core.List.{List}
 use Prim.Native.Nat.{ℕ, ◌*◌, ◌^◌, ◌%◌}
 use native.Mathlib.Omega.{arith}
@@ -16,7 +17,7 @@ use Rattle.itx_halving.specs.Taken.{takes, Call, takes_two, done_two}
 use Rattle.itx_halving.proofs.Lines.{sized-rooms, sized-end, amount}
 use Rattle.itx_halving.proofs.Taken.{call, call-rooms, two-did, two-left}
 use Rattle.integers.proofs.Bits.{back}
-use Rattle.itx_lines.proofs.stage_two.itxb1.Goals.{After-rounding-add, Then-takes}
+use Rattle.itx_lines.proofs.stage_two.itxb1.Goals.{After-rounding, Then-takes}
 use Rattle.itx_lines.proofs.stage_two.itxb1.Goals as goal
 
 -- where the guard has let the call pass
@@ -52,34 +53,43 @@ module _ (c : Then-takes) where
       (sized-end left c.args.dst.now l c.args.log2_size k e p)
 
 -- the rounding number
-sum : (c : After-rounding-add) → Amount (to_z w64 (of_z w64 c.rounding-add.result)) c.args.shift
+sum : (c : After-rounding) → Amount (to_z w64 (of_z w64 c.rounding.result)) c.args.shift
 sum c =
-    amount c.args.shift (known (goal.at.overflow_shl-l c).Then-takes).shift-most (back w64 c.rounding-add.result c.rounding-add.type_inv ∙ c.rounding-add.ensures)
+    amount c.args.shift (known (goal.at.overflow_shl-l c).Then-takes).shift-most (back w64 c.rounding.result c.rounding.type_inv ∙ c.rounding.ensures)
+
+pub invariant_of-r : goal.invariant_of-r
+invariant_of-r c = record { amount = sum (goal.at.invariant_of-r c).After-rounding }
+
+pub invariant_of-r-in-5 : goal.invariant_of-r-in-5
+invariant_of-r-in-5 c = record { amount = sum (goal.at.invariant_of-r-in-5 c).After-rounding }
+
+pub invariant_of-r-in_default : goal.invariant_of-r-in_default
+invariant_of-r-in_default c = record { amount = sum (goal.at.invariant_of-r-in_default c).After-rounding }
 
 pub overflow_shl-l : goal.overflow_shl-l
 overflow_shl-l c = omega (arith, (known (goal.at.overflow_shl-l c).Then-takes).line-most)
 
-pub itx_pb16b1-requires : goal.itx_pb16b1-requires
-itx_pb16b1-requires c = (sum (goal.at.itx_pb16b1-requires c).After-rounding-add, room (goal.at.itx_pb16b1-requires c).Then-takes 4 c.in-4.is)
+pub lines-requires : goal.lines-requires
+lines-requires c = (inl refl, room (goal.at.lines-requires c).Then-takes 4 c.in-4.is)
 
-pub itx_pb32b1-requires : goal.itx_pb32b1-requires
-itx_pb32b1-requires c = (sum (goal.at.itx_pb32b1-requires c).After-rounding-add, room (goal.at.itx_pb32b1-requires c).Then-takes 5 c.in-5.is)
+pub lines-requires-in-5 : goal.lines-requires-in-5
+lines-requires-in-5 c = (inr (inl refl), room (goal.at.lines-requires-in-5 c).Then-takes 5 c.in-5.is)
 
-pub itx_pb64b1-requires : goal.itx_pb64b1-requires
-itx_pb64b1-requires c =
-    let k = known (goal.at.itx_pb64b1-requires c).Then-takes in (sum (goal.at.itx_pb64b1-requires c).After-rounding-add, room (goal.at.itx_pb64b1-requires c).Then-takes 6 (omega (arith, k.size-least, k.size-most)))
+pub lines-requires-in_default : goal.lines-requires-in_default
+lines-requires-in_default c =
+    let k = known (goal.at.lines-requires-in_default c).Then-takes in (inr (inr refl), room (goal.at.lines-requires-in_default c).Then-takes 6 (omega (arith, k.size-least, k.size-most)))
 
 pub returns-in-4 : goal.returns-in-4
 returns-in-4 c =
-    let both = done (goal.at.returns-in-4 c).Then-takes 4 c.in-4.is c.itx_pb16b1.ensures in record { did = both.0; exit = both.1 }
+    let both = done (goal.at.returns-in-4 c).Then-takes 4 c.in-4.is c.lines.ensures in record { did = both.0; exit = both.1 }
 
 pub returns-in-5 : goal.returns-in-5
 returns-in-5 c =
-    let both = done (goal.at.returns-in-5 c).Then-takes 5 c.in-5.is c.itx_pb32b1.ensures in record { did = both.0; exit = both.1 }
+    let both = done (goal.at.returns-in-5 c).Then-takes 5 c.in-5.is c.lines-in-5.ensures in record { did = both.0; exit = both.1 }
 
 pub returns-in_default : goal.returns-in_default
 returns-in_default c =
-    let both = done (goal.at.returns-in_default c).Then-takes 6 (omega (arith, (known (goal.at.returns-in_default c).Then-takes).size-least, (known (goal.at.returns-in_default c).Then-takes).size-most)) c.itx_pb64b1.ensures in record { did = both.0; exit = both.1 }
+    let both = done (goal.at.returns-in_default c).Then-takes 6 (omega (arith, (known (goal.at.returns-in_default c).Then-takes).size-least, (known (goal.at.returns-in_default c).Then-takes).size-most)) c.lines-in_default.ensures in record { did = both.0; exit = both.1 }
 
 pub returns : goal.returns
 returns c =

@@ -17,16 +17,16 @@ use Rattle.itx_lines.proofs.store.rounded.Goals as goal
 abbrev known : Start → ℕ → Known
 known s =
     env (
-    small w64 s.args.v 17592186044416 (record { bound = s.requires.1 }) tt
-    ∷ small w64 s.args.add 2147483648 (subst (Within 2147483648) (sym s.requires.0.is) (rounding-within s.args.shift s.requires.0.most)) tt
+    small w64 s.args.v 17592186044416 (record { bound = s.requires }) tt
+    ∷ small w64 s.args.r.add 2147483648 (subst (Within 2147483648) (sym s.args.r.amount.is) (rounding-within s.args.r.shift s.args.r.amount.most)) tt
     ∷ []
     )
 
 pub overflow_add-v : goal.overflow_add-v
-overflow_add-v c = fit (known c) w64 (add (var 0) (var 1)) tt
+overflow_add-v c = fit (known (goal.at.overflow_add-v c).Start) w64 (add (var 0) (var 1)) tt
 
 pub returns : goal.returns
 returns c =
     back w16 c.clip16.result c.clip16.type_inv ∙ c.clip16.ensures
-    ∙ ap clip16 (reads (known (goal.at.returns c).Start) (loc w64 (shr (loc w64 (add (var 0) (var 1))) c.args.shift)) tt)
-    ∙ ap (λ (y : ℤ). clip16 (shr_z (c.args.v +ℤ y) (2 ^ c.args.shift))) c.requires.0.is
+    ∙ ap clip16 (reads (known (goal.at.returns c).Start) (loc w64 (shr (loc w64 (add (var 0) (var 1))) c.args.r.shift)) tt)
+    ∙ ap (λ (y : ℤ). clip16 (shr_z (c.args.v +ℤ y) (2 ^ c.args.r.shift))) c.args.r.amount.is

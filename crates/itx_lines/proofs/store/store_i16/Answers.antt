@@ -26,7 +26,7 @@ pub rounded-requires : goal.rounded-requires
 rounded-requires c =
     let k = c.loop-k.k in
     let fe : SFits w64 (get_or c.args.e.now k (pos 0)) = sfits_of c.rounded-arg-1.given in
-    rw (to_z-of_z fe, to_z-of_z c.ranges.add) (c.requires.0.0, c.requires.0.1.small k c.loop-k-test.true)
+    rw (to_z-of_z fe) (c.requires.0.small k c.loop-k-test.true)
 
 pub overflow_mul-j : goal.overflow_mul-j
 overflow_mul-j c = omega (arith, c.requires.1.1)
@@ -52,7 +52,7 @@ loop-k-preserved c =
     let fe : SFits w64 (get_or c.args.e.now k (pos 0)) = sfits_of c.rounded-arg-1.given in (
       omega arith,
       next_more (to_z w16 (of_z w16 c.rounded.result)) c.loop-k.invariant.1
-          (back w16 c.rounded.result c.rounded.type_inv ∙ c.rounded.ensures ∙ ap (shifted c.args.shift) (to_z-of_z fe)),
+          (back w16 c.rounded.result c.rounded.type_inv ∙ c.rounded.ensures ∙ ap (shifted c.args.r.shift) (to_z-of_z fe)),
     )
 
 pub shape_of-dst : goal.shape_of-dst
@@ -61,5 +61,5 @@ shape_of-dst c = c.loop-k.invariant.1.long
 pub returns : goal.returns
 returns c =
     let a = c.args in
-    subst (λ (k : ℕ). Next a.dst.now c.loop-k.dst (a.j * a.n) k (λ i. shifted a.shift (get_or a.e.now i (pos 0))))
+    subst (λ (k : ℕ). Next a.dst.now c.loop-k.dst (a.j * a.n) k (λ i. shifted a.r.shift (get_or a.e.now i (pos 0))))
     (omega arith) c.loop-k.invariant.1

@@ -1,0 +1,2 @@
+-- Laws of the sizes, and of the lines that are gathered.
+pub mod Sizes

@@ -1,0 +1,2 @@
+-- The sizes that this crate does.
+pub mod Sizes
