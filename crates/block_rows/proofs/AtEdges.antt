@@ -25,8 +25,9 @@ use Rattle.plane_tests.specs.Blocks.{cell}
 use Rattle.plane_tests.proofs.Planes.{well-formed}
 use Rattle.plane_tests.proofs.Far.{not-past}
 use Rattle.plane_tests.proofs.Replies.{Alike}
-use Rattle.block_rows.specs.Edges.{edge_cell, row_at_edge, EdgesIn}
-use Rattle.block_rows.proofs.Cells.{Same, SameBlock}
+use Rattle.block_rows.specs.Edges.{edge_cell, row_at_edge, EdgesIn, Stands}
+use Rattle.block_rows.specs.Totals.{BlocksTotalled}
+use Rattle.block_rows.proofs.Cells.{Same, SameBlock, blocks-alike}
 use Rattle.block_rows.proofs.Marked.{samples}
 
 -- a position that doesn't reach past a side reads below it
@@ -133,3 +134,10 @@ edge_same l stride x y {row = row} j e = record {
       ap (λ (r : List ℕ). get_or r k 0) (take_all (length l - base) (drop base l) (le_of_eq (length-drop base l)))
       ∙ get_or-drop base l k 0 ∙ ap (λ (n : ℕ). get_or l (n * stride + k) 0) e;
 }
+
+-- what two blocks that stand in their buffers add up to is what they do at the edges
+pub standing-totalled :
+    {A : Type 0} (f g : A → ℕ → ℕ) (d : A) {b w h s t w' h' s' t' x y : ℕ} {a a' : List A} {F G : ℕ → ℕ → ℕ} →
+    Stands w h a s t F w' h' a' s' t' G → BlocksTotalled b f g w h (cell d a s t) F x y → BlocksTotalled b f g w' h' (cell d a' s' t') G x y
+standing-totalled f g d {w' = w'} k r =
+    blocks-alike f g w' (record { at = λ j i. rw (k.values, k.start, k.stride) }) (record { at = k.reads }) (rw (k.width, k.height) at r)

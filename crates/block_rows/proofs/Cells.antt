@@ -10,11 +10,8 @@ use Rattle.integers.specs.Or.{addition_or, or_n}
 use Rattle.integers.proofs.Sum.{sum-ext}
 use Rattle.plane_tests.specs.Blocks.{TwoBlocks, cell}
 use Rattle.plane_tests.proofs.Planes.{in_one, in_two}
+use Rattle.block_rows.specs.Rows.{row_of}
 use Rattle.block_rows.specs.Totals.{TwoRows, Totalled, value_at, RowsTotalled, BlocksTotalled}
-
--- row j of a block whose rows stand a stride t apart in l, from s on
-unfoldable pub row_of : {A : Type 0} → List A → ℕ → ℕ → ℕ → ℕ → List A
-row_of l s t j w = take w (drop (s + j * t) l)
 
 module _ {A : Type 0} (l : List A) (s t j w : ℕ) where
   pub row-length : s + j * t + w ≤ length l → length (row_of l s t j w) ≡ w
@@ -44,6 +41,11 @@ packed-part l j w =
     let f : j * w ≡ 0 + j * w = omega arith in
     ap₂ (λ (n m : ℕ). take n (drop m l)) e f
 
+-- sides that are named twice
+pub sides-alike :
+    {m s t n s' t' w h w' h' : ℕ} → w ≡ w' → h ≡ h' → TwoBlocks w' h' m s t n s' t' → TwoBlocks w h m s t n s' t'
+sides-alike {m} {s} {t} {n} {s'} {t'} d e k = subst₂ (λ w h. TwoBlocks w h m s t n s' t') (sym d) (sym e) k
+
 -- two such parts are rows of as many values as the blocks are wide
 pub two-parts :
     {A B : Type 0} (a : List A) (b : List B) {w h s t s' t' j : ℕ} → TwoBlocks w h (length a) s t (length b) s' t' → j < h →
@@ -71,6 +73,16 @@ rows_alike f g {w = w} {F = F} {F'} {G} {G'} p q t = record {
   marks = t.marks ∙ sum-ext addition_or w (λ i. g (F i) (G i)) (λ i. g (F' i) (G' i)) (λ i n. ap₂ g (p.at i n) (q.at i n));
   most = t.most;
 }
+
+-- rows p and q that were taken from two blocks, said of the blocks
+pub rows-totalled :
+    {A B : Type 0} (f g : A → B → ℕ) (d : A) (d' : B) (a : List A) (b : List B) {w h s t s' t' j c x y : ℕ} {p : List A} {q : List B} →
+    TwoBlocks w h (length a) s t (length b) s' t' → j < h → p ≡ row_of a s t j w → q ≡ row_of b s' t' j w →
+    RowsTotalled c f g (length p) (value_at d p) (value_at d' q) x y → RowsTotalled c f g w (cell d a s t j) (cell d' b s' t' j) x y
+rows-totalled f g d d' a b {w} {h} {s} {t} {s'} {t'} {j} {c} {x} {y} {p} {q} k n m o r =
+    rows_alike f g (record { at = λ i l. ap (λ v. get_or v i d) m ∙ row_at a s t j w d i l })
+    (record { at = λ i l. ap (λ v. get_or v i d') o ∙ row_at b s' t' j w d' i l })
+    (subst (λ (v : ℕ). RowsTotalled c f g v (value_at d p) (value_at d' q) x y) (ap length m ∙ row-length a s t j w (in_one k n)) r)
 
 -- ---- and so do blocks
 pub record SameBlock {A : Type 0} (F G : ℕ → ℕ → A) : Type 0 where

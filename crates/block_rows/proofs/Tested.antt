@@ -28,7 +28,8 @@ use Rattle.plane_tests.specs.Blocks.{cell, strided, TwoBlocks}
 use Rattle.plane_tests.proofs.Planes.{in_one}
 use Rattle.plane_tests.proofs.Replies.{marked-first}
 use Rattle.block_rows.specs.Small.{SmallBlocks, apart_from, blocks_marks, wrapped}
-use Rattle.block_rows.proofs.Cells.{row_of, row-length, row_at}
+use Rattle.block_rows.specs.Rows.{row_of}
+use Rattle.block_rows.proofs.Cells.{row-length, row_at}
 use Rattle.block_rows.proofs.Wrapped.{wrapped-small}
 
 -- ---- p and q are row j of each of two blocks

@@ -1,6 +1,6 @@
 -- Samples at positions that may be negative. Cited by the contracts of src/edges.rt and of the crates that compare blocks there. Assumes
 -- nothing.
-use Rattle.std.specs.Prelude.{List, ℕ, suc, ◌+◌, ◌*◌, ◌≤◌, ◌<◌, ℤ, pos, negsuc, ◌+ℤ◌, get_or}
+use Rattle.std.specs.Prelude.{◌≡◌, List, ℕ, suc, ◌+◌, ◌*◌, ◌≤◌, ◌<◌, ℤ, pos, negsuc, ◌+ℤ◌, get_or}
 use Rattle.order.specs.Positions.{reach}
 use Rattle.evc.specs.Planes.{edge}
 
@@ -35,3 +35,12 @@ pub record EdgesIn (n stride : ℕ) (x y : ℤ) (w h : ℕ) : Type 0 where
 pub record AtEdges (w h m start stride n stride' : ℕ) (x y : ℤ) : Type 0 where
   pub one : reach start w stride h ≤ m
   pub two : EdgesIn n stride' x y w h
+
+-- a block of w by h and what the other reads, F, where they stand, are those of w' by h' at the edges, which G says
+pub record Stands {A : Type 0} (w h : ℕ) (a : List A) (s t : ℕ) (F : ℕ → ℕ → ℕ) (w' h' : ℕ) (a' : List A) (s' t' : ℕ) (G : ℕ → ℕ → ℕ) : Type 0 where
+  pub width : w ≡ w'
+  pub height : h ≡ h'
+  pub values : a ≡ a'
+  pub start : s ≡ s'
+  pub stride : t ≡ t'
+  pub reads : (j i : ℕ) → F j i ≡ G j i

@@ -2,3 +2,4 @@
 pub mod Totals
 pub mod Edges
 pub mod Small
+pub mod Rows

@@ -2,10 +2,14 @@
 // may be negative.
 #![tactic(auto)]
 
+mod at_edges;
+mod blocks;
 mod differences;
 mod edges;
 
-pub use differences::{any_row, diff_row};
+pub use at_edges::{EdgePair, compare_at_edges};
+pub use blocks::{BlockPair, Compare, RowPair, compare_blocks};
+pub use differences::{any_block, any_row, diff_row};
 pub use edges::{edge_row, negative, row_start};
 
 // A sample's row and column in its plane.

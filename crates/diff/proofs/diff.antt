@@ -1,3 +1,2 @@
 -- Laws that several proofs of src/diff.rt need.
-pub mod Sides
 pub mod Differing

@@ -7,117 +7,62 @@ ghost use Rattle.evc.specs.Answers.{answer_number};
 ghost use Rattle.evc.specs.Planes.{plane_of};
 ghost use Rattle.evc.specs.Differences.{diff_at};
 ghost use Rattle.evc.specs.Calls.{diff_16b_number, diff_16b_exit};
-ghost use Rattle.plane_tests.specs.Blocks.{TwoBlocks, strided};
-ghost use Rattle.block_rows.specs.Small.{Tested, apart_from, blocks_marks};
+ghost use Rattle.plane_tests.specs.Blocks.{strided};
+ghost use Rattle.block_rows.specs.Small.{SmallBlocks, apart_from};
 ghost use Rattle.diff.specs.Rests.{Differed};
 
-use evc::{Answer, Refusal};
-
-// The OR of two blocks, row by row. Here and below the second block is packed.
-fn any_rows(a: &[u16], a_at: usize, a_stride: usize, b: &[u16], w: usize, h: usize) -> u16
-    requires { TwoBlocks w h (length a.now) a_at a_stride (length b.now) 0 w }
-    ensures { result ≡ blocks_marks w h a.now a_at a_stride b.now 0 w }
-{
-    let mut any: u16 = 0;
-    for j in 0..h {
-        let p = a_at + j * a_stride;
-        let q = j * w;
-        let p_end = p + w;
-        let q_end = q + w;
-        any = any | block_rows::any_row(&a[p..p_end], &b[q..q_end]);
-    }
-    any
-}
+use block_rows::{BlockPair, any_block, diff_row};
+use evc::Refusal;
 
 // The differences of two blocks, row after row.
-fn diff_rows(
-    a: &[u16],
-    a_at: usize,
-    a_stride: usize,
-    b: &[u16],
-    w: usize,
-    h: usize,
-    out: &mut [i16],
-)
-    requires tested { Tested w h a.now a_at a_stride b.now 0 w }
+fn diff_rows(pair: &BlockPair<u16>, w: usize, h: usize, out: &mut [i16])
+    requires width { w ≡ pair.now.w }
+    requires height { h ≡ pair.now.h }
+    requires small { SmallBlocks w h pair.now.a.now pair.now.a_at pair.now.a_stride pair.now.b.now pair.now.b_at pair.now.b_stride }
     requires room { h * w ≤ length out.old }
-    ensures { out.new ≡ written (h * w) (diff_at w (apart_from a.now a_at a_stride b.now 0 w)) out.old }
+    ensures { out.new ≡ written (h * w) (diff_at w (apart_from pair.now.a.now pair.now.a_at pair.now.a_stride pair.now.b.now pair.now.b_at pair.now.b_stride)) out.old }
 {
     for j in 0..h {
-        let p = a_at + j * a_stride;
-        let q = j * w;
+        let p = pair.a_at + j * pair.a_stride;
+        let q = pair.b_at + j * pair.b_stride;
+        let r = j * w;
         let p_end = p + w;
         let q_end = q + w;
-        block_rows::diff_row(&a[p..p_end], &b[q..q_end], &mut out[q..q_end]);
+        let r_end = r + w;
+        diff_row(&pair.a[p..p_end], &pair.b[q..q_end], &mut out[r..r_end]);
+    }
+}
+
+// The same: common widths are literals, for which compilers write straight vector code. At 32 the code for any width is the shorter one.
+fn diff_block(pair: &BlockPair<u16>, out: &mut [i16])
+    requires small { SmallBlocks pair.now.w pair.now.h pair.now.a.now pair.now.a_at pair.now.a_stride pair.now.b.now pair.now.b_at pair.now.b_stride }
+    requires room { pair.now.h * pair.now.w ≤ length out.old }
+    ensures { out.new ≡ written (pair.now.h * pair.now.w) (diff_at pair.now.w (apart_from pair.now.a.now pair.now.a_at pair.now.a_stride pair.now.b.now pair.now.b_at pair.now.b_stride)) out.old }
+{
+    let h = pair.h;
+    match pair.w {
+        64 => diff_rows(pair, 64, h, out),
+        16 => diff_rows(pair, 16, h, out),
+        8 => diff_rows(pair, 8, h, out),
+        4 if h == 4 => diff_rows(pair, 4, 4, out),
+        4 => diff_rows(pair, 4, h, out),
+        2 => diff_rows(pair, 2, h, out),
+        w => diff_rows(pair, w, h, out),
     }
 }
 
 // Two blocks of samples, after all other tests: the samples are tested, and only then the differences are written.
-fn of_width(
-    a: &[u16],
-    a_at: usize,
-    a_stride: usize,
-    b: &[u16],
-    w: usize,
-    h: usize,
-    depth: u8,
-    out: &mut [i16],
-) -> Answer
-    requires two_blocks { TwoBlocks w h (length a.now) a_at a_stride (length b.now) 0 w }
-    requires depth_and_room { (depth ≤ 14) × (h * w ≤ length out.old) }
-    ensures { Differed w h (strided a.now a_at a_stride depth) (strided b.now 0 w depth) out.old (answer_number result) out.new }
+fn of_blocks(pair: &BlockPair<u16>, depth: u8, out: &mut [i16]) -> Result<(), Refusal>
+    requires deep { depth ≤ 14 }
+    requires room { pair.now.h * pair.now.w ≤ length out.old }
+    ensures { Differed pair.now.w pair.now.h (strided pair.now.a.now pair.now.a_at pair.now.a_stride depth) (strided pair.now.b.now pair.now.b_at pair.now.b_stride depth) out.old (answer_number result) out.new }
 {
-    let any = any_rows(a, a_at, a_stride, b, w, h);
+    let any = any_block(pair);
     if any >> depth != 0 {
-        return Answer::Refused(Refusal::Sample);
+        return Err(Refusal::Sample);
     }
-    diff_rows(a, a_at, a_stride, b, w, h, out);
-    Answer::Done
-}
-
-// Blocks of four columns: four rows of them are a literal too.
-fn of_four(
-    a: &[u16],
-    a_at: usize,
-    a_stride: usize,
-    b: &[u16],
-    h: usize,
-    depth: u8,
-    out: &mut [i16],
-) -> Answer
-    requires two_blocks { TwoBlocks 4 h (length a.now) a_at a_stride (length b.now) 0 4 }
-    requires depth_and_room { (depth ≤ 14) × (h * 4 ≤ length out.old) }
-    ensures { Differed 4 h (strided a.now a_at a_stride depth) (strided b.now 0 4 depth) out.old (answer_number result) out.new }
-{
-    if h == 4 {
-        return of_width(a, a_at, a_stride, b, 4, 4, depth, out);
-    }
-    of_width(a, a_at, a_stride, b, 4, h, depth, out)
-}
-
-// Blocks of any width: common ones are literals, for which compilers write straight vector code. At 32 the code for any width is the shorter one.
-fn of_blocks(
-    a: &[u16],
-    a_at: usize,
-    a_stride: usize,
-    b: &[u16],
-    w: usize,
-    h: usize,
-    depth: u8,
-    out: &mut [i16],
-) -> Answer
-    requires two_blocks { TwoBlocks w h (length a.now) a_at a_stride (length b.now) 0 w }
-    requires depth_and_room { (depth ≤ 14) × (h * w ≤ length out.old) }
-    ensures { Differed w h (strided a.now a_at a_stride depth) (strided b.now 0 w depth) out.old (answer_number result) out.new }
-{
-    match w {
-        64 => of_width(a, a_at, a_stride, b, 64, h, depth, out),
-        16 => of_width(a, a_at, a_stride, b, 16, h, depth, out),
-        8 => of_width(a, a_at, a_stride, b, 8, h, depth, out),
-        4 => of_four(a, a_at, a_stride, b, h, depth, out),
-        2 => of_width(a, a_at, a_stride, b, 2, h, depth, out),
-        _ => of_width(a, a_at, a_stride, b, w, h, depth, out),
-    }
+    diff_block(pair, out);
+    Ok(())
 }
 
 pub fn evce_diff_16b(
@@ -132,24 +77,34 @@ pub fn evce_diff_16b(
     cur: &[u16],
     depth: u8,
     diff: &mut [i16],
-) -> Answer
+) -> Result<(), Refusal>
     ensures answer { answer_number result ≡ diff_16b_number (length diff.old) (plane_of org.now width height stride) x y log2_w log2_h cur.now depth }
     ensures exit { diff.new ≡ diff_16b_exit (plane_of org.now width height stride) x y log2_w log2_h cur.now depth diff.old }
 {
     if plane_tests::bad_logs(log2_w, log2_h) {
-        return Answer::Refused(Refusal::Size);
+        return Err(Refusal::Size);
     }
     let w = 1usize << log2_w;
     let h = 1usize << log2_h;
     if plane_tests::bad_depth(depth) {
-        return Answer::Refused(Refusal::Depth);
+        return Err(Refusal::Depth);
     }
     let n = h * w;
     if plane_tests::outside_plane(org.len(), width, height, stride, x, y, w, h)
         | (cur.len() < n)
         | (diff.len() < n)
     {
-        return Answer::Refused(Refusal::Area);
+        return Err(Refusal::Area);
     }
-    of_blocks(org, y * stride + x, stride, cur, w, h, depth, diff)
+    let pair = BlockPair {
+        a: org,
+        a_at: y * stride + x,
+        a_stride: stride,
+        b: cur,
+        b_at: 0,
+        b_stride: w,
+        w,
+        h,
+    };
+    of_blocks(&pair, depth, diff)
 }

@@ -1,8 +1,6 @@
 // SAD of two blocks of samples, after the Rust's enc/sad.rs: each public function tests, then compares row by row.
 #![tactic(auto)]
 
-mod blocks;
-mod edges;
 mod rows;
 mod sad;
 

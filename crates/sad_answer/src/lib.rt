@@ -4,29 +4,26 @@
 #![tactic(auto)]
 
 ghost use Rattle.std.specs.Prelude.{◌≡◌, [], ◌∷◌, ◌-◌, ◌/◌, ◌^◌, leb};
-ghost use Rattle.evc.specs.Answers.{distortion_reading};
+ghost use Rattle.evc.specs.Answers.{reading};
 ghost use Rattle.evc.specs.declared.Refusal.TheVariants as number;
 ghost use Rattle.evc.specs.Tests.{first, reply, ◌when◌};
 ghost use Rattle.evc.specs.Calls.{depth_test};
 ghost use Rattle.sad_answer.specs.In32.{in32};
 
-use evc::{Distortion, Refusal};
+use evc::Refusal;
 
 // The SAD of absolute differences that add up to sum, with the OR of their marks. It ends at the largest number of 32 bits, which no two blocks
 // reach: so the sum is given in 64 bits, in which the loops add rows, and compilers keep the shape of those.
-pub fn sad_answer(sum: u64, any: u16, depth: u8) -> Distortion
-    ensures { distortion_reading result ≡ reply (first (depth_test depth ∷ (number.Sample when leb (2 ^ depth) any) ∷ [])) (in32 (sum / 2 ^ (depth - 8))) }
+pub fn sad_answer(sum: u64, any: u16, depth: u8) -> Result<u32, Refusal>
+    ensures { reading result ≡ reply (first (depth_test depth ∷ (number.Sample when leb (2 ^ depth) any) ∷ [])) (in32 (sum / 2 ^ (depth - 8))) }
 {
     if plane_tests::bad_depth(depth) {
-        return Distortion::Refused(Refusal::Depth);
+        return Err(Refusal::Depth);
     }
     if sample_tests::bad_samples(any, depth) {
-        return Distortion::Refused(Refusal::Sample);
+        return Err(Refusal::Sample);
     }
     let sad = sum >> (depth - 8);
-    if 4294967295 < sad {
-        return Distortion::Value(4294967295);
-    }
-    let value = sad as u32;
-    Distortion::Value(value)
+    let value = sad.min(4294967295) as u32;
+    Ok(value)
 }

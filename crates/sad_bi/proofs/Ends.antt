@@ -13,8 +13,9 @@ use Rattle.sad_bi.specs.Marks.{low_mark_of}
 use Rattle.sad_answer.proofs.Answered.{answered}
 use Rattle.sad_bi.proofs.LowMark.{low-marked}
 use Rattle.plane_tests.proofs.Replies.{Alike}
+use Rattle.block_rows.specs.Edges.{Stands}
 use Rattle.block_rows.specs.Totals.{BlocksTotalled}
-use Rattle.block_rows.proofs.Cells.{SameBlock, same_block, sums-alike}
+use Rattle.block_rows.proofs.Cells.{SameBlock, sums-alike}
 use Rattle.block_rows.proofs.Marked.{samples, marked-value}
 use Rattle.sad_bi.specs.Totals.{BiCounted, apart_bi, mark_bi}
 
@@ -31,13 +32,19 @@ pub counted-all :
     (w h : ℕ) (A : ℕ → ℕ → ℤ) (B : ℕ → ℕ → ℕ) {sum any : ℕ} → BlocksTotalled (64 * (64 * 98303)) apart_bi mark_bi w h A B sum any → BiCounted w h A B sum any
 counted-all w h A B t = record { total = λ k. t.total; marks = t.marks; most = omega (arith, t.most) }
 
--- samples that are read alike
-pub counted-ext : {w h sum any : ℕ} (A : ℕ → ℕ → ℤ) {B C : ℕ → ℕ → ℕ} → SameBlock B C → BiCounted w h A B sum any → BiCounted w h A C sum any
-counted-ext {w} {h} A e t = record {
-  total = λ k. t.total k ∙ sums-alike addition_n+ apart_bi (same_block A) e w h;
-  marks = t.marks ∙ sums-alike addition_or mark_bi (same_block A) e w h;
-  most = t.most;
-}
+-- blocks that stand in their buffers, of which the second is one at the edges
+pub standing-counted :
+    {w h s t w' h' s' t' x y : ℕ} {a a' : List ℤ} {F G : ℕ → ℕ → ℕ} → Stands w h a s t F w' h' a' s' t' G →
+    BiCounted w h (cell (pos 0) a s t) F x y → BiCounted w' h' (cell (pos 0) a' s' t') G x y
+standing-counted {s = s} {t} {w'} {h'} {s'} {t'} {a = a} {a'} {F} {G} k r =
+    let p : SameBlock (cell (pos 0) a s t) (cell (pos 0) a' s' t') = record { at = λ j i. rw (k.values, k.start, k.stride) } in
+    let q : SameBlock F G = record { at = k.reads } in
+    let c = rw (k.width, k.height) at r in
+    record {
+      total = λ m. c.total m ∙ sums-alike addition_n+ apart_bi p q w' h';
+      marks = c.marks ∙ sums-alike addition_or mark_bi p q w' h';
+      most = c.most;
+    }
 
 module _ (w h depth : ℕ) (A : ℕ → ℕ → ℤ) (B : ℕ → ℕ → ℕ) {sum any : ℕ} where
   pub bi-totalled :

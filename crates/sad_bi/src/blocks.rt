@@ -2,11 +2,13 @@
 // Differs from the Rust in: a difference is formed in 32 bits, where it can't overflow; a value below -16,384 leaves a mark in the OR that no
 // depth holds, so that one test at the end finds it.
 ghost use Rattle.std.specs.Prelude.{◌≡◌, ◌*◌, ◌≤◌, length, pos};
-ghost use Rattle.plane_tests.specs.Blocks.{TwoBlocks, cell};
-ghost use Rattle.block_rows.specs.Totals.{TwoRows, RowsTotalled, BlocksTotalled, value_at};
+ghost use Rattle.std.proofs.Common.{rules};
+ghost use Rattle.plane_tests.specs.Blocks.{cell};
+ghost use Rattle.block_rows.specs.Edges.{edge_cell};
+ghost use Rattle.block_rows.specs.Totals.{RowsTotalled, value_at};
 ghost use Rattle.sad_bi.specs.Totals.{BiCounted, apart_bi, mark_bi};
 
-use block_rows::Totals;
+use block_rows::{BlockPair, Compare, EdgePair, RowPair, Totals, compare_at_edges, compare_blocks};
 
 // How far a value and a sample are apart: at most 32768 + 65535.
 fn distance(v: i16, q: u16) -> u32
@@ -21,88 +23,65 @@ fn distance(v: i16, q: u16) -> u32
     }
 }
 
-// The absolute differences of two rows, added.
-pub(crate) fn sad_row(a: &[i16], b: &[u16], w: usize) -> Totals
-    requires { TwoRows w a.now b.now }
-    ensures { RowsTotalled (64 * 98303) apart_bi mark_bi w (value_at (pos 0) a.now) (value_at 0 b.now) result.sum result.any }
-{
-    let mut sum: u32 = 0;
-    let mut any: u16 = 0;
-    for i in 0..w {
-        let v = a[i];
-        let q = b[i];
-        any = any | (crate::marks::low_mark(v) | q);
-        sum = sum + distance(v, q);
-    }
-    let all = sum as u64;
-    Totals { sum: all, any: any }
-}
+// Bi-prediction values and a block of samples, compared by their absolute differences.
+#[derive(Clone, Copy)]
+pub(crate) struct SadBi;
 
-// The same of two blocks, of which the first is packed.
-fn sad_rows(a: &[i16], b: &[u16], b_at: usize, b_stride: usize, w: usize, h: usize) -> Totals
-    requires { TwoBlocks w h (length a.now) 0 w (length b.now) b_at b_stride }
-    ensures { BlocksTotalled (64 * (64 * 98303)) apart_bi mark_bi w h (cell (pos 0) a.now 0 w) (cell 0 b.now b_at b_stride) result.sum result.any }
-{
-    let mut sum: u64 = 0;
-    let mut any: u16 = 0;
-    for j in 0..h {
-        let p = j * w;
-        let q = b_at + j * b_stride;
-        let p_end = p + w;
-        let q_end = q + w;
-        let t = sad_row(&a[p..p_end], &b[q..q_end], w);
-        sum = sum + t.sum;
-        any = any | t.any;
-    }
-    Totals { sum: sum, any: any }
-}
+impl Compare<i16> for SadBi {
+    ghost none = { pos 0 };
 
-// The same for a width of 4, with the common height as a literal too: so few samples are added without a loop.
-fn fours(a: &[i16], b: &[u16], b_at: usize, b_stride: usize, h: usize) -> Totals
-    requires { TwoBlocks 4 h (length a.now) 0 4 (length b.now) b_at b_stride }
-    ensures { BlocksTotalled (64 * (64 * 98303)) apart_bi mark_bi 4 h (cell (pos 0) a.now 0 4) (cell 0 b.now b_at b_stride) result.sum result.any }
-{
-    if h == 4 {
-        return sad_rows(a, b, b_at, b_stride, 4, 4);
-    }
-    sad_rows(a, b, b_at, b_stride, 4, h)
-}
+    ghost adds = { λ _. apart_bi };
 
-// The same, with the common widths as literals.
-fn sad_block(a: &[i16], b: &[u16], b_at: usize, b_stride: usize, w: usize, h: usize) -> Totals
-    requires { TwoBlocks w h (length a.now) 0 w (length b.now) b_at b_stride }
-    ensures { BlocksTotalled (64 * (64 * 98303)) apart_bi mark_bi w h (cell (pos 0) a.now 0 w) (cell 0 b.now b_at b_stride) result.sum result.any }
-{
-    match w {
-        64 => sad_rows(a, b, b_at, b_stride, 64, h),
-        32 => sad_rows(a, b, b_at, b_stride, 32, h),
-        16 => sad_rows(a, b, b_at, b_stride, 16, h),
-        8 => sad_rows(a, b, b_at, b_stride, 8, h),
-        4 => fours(a, b, b_at, b_stride, h),
-        _ => sad_rows(a, b, b_at, b_stride, w, h),
+    ghost marks = { λ _. mark_bi };
+
+    ghost most = { 98303 };
+
+    ghost bounded = { Prim.search rules };
+
+    // The absolute differences of two rows, added.
+    fn row(self, rows: RowPair<i16>) -> Totals
+        ensures { RowsTotalled (64 * 98303) apart_bi mark_bi (length rows.entry.a.now) (value_at (pos 0) rows.entry.a.now) (value_at 0 rows.entry.b.now) result.sum result.any }
+    {
+        let w = rows.a.len();
+        let mut sum: u32 = 0;
+        let mut any: u16 = 0;
+        for i in 0..w {
+            let v = rows.a[i];
+            let q = rows.b[i];
+            any = any | (crate::marks::low_mark(v) | q);
+            sum = sum + distance(v, q);
+        }
+        Totals {
+            sum: sum as u64,
+            any,
+        }
     }
 }
 
-// The sum is the blocks' where no mark has more than 14 bits; else the caller refuses.
-pub(crate) fn total(
-    a: &[i16],
-    b: &[u16],
-    b_at: usize,
-    b_stride: usize,
-    w: usize,
-    h: usize,
-) -> Totals
-    requires { TwoBlocks w h (length a.now) 0 w (length b.now) b_at b_stride }
-    ensures { BiCounted w h (cell (pos 0) a.now 0 w) (cell 0 b.now b_at b_stride) result.sum result.any }
+// What two blocks add up to, of which the first is packed. The sum is theirs where no mark has more than 14 bits; else the caller refuses.
+pub(crate) fn total(pair: &BlockPair<i16>) -> Totals
+    requires { (pair.now.a_at ≡ 0) × (pair.now.a_stride ≡ pair.now.w) }
+    ensures { BiCounted pair.now.w pair.now.h (cell (pos 0) pair.now.a.now pair.now.a_at pair.now.a_stride) (cell 0 pair.now.b.now pair.now.b_at pair.now.b_stride) result.sum result.any }
 {
-    if b_stride == w {
-        let size = w * h;
+    if pair.b_stride == pair.w {
+        let size = pair.w * pair.h;
         if size % 512 == 0 {
-            return crate::near::runs(a, b, b_at, 256, size / 512);
+            return crate::near::runs(pair.a, pair.b, pair.b_at, 256, size / 512);
         }
         if size % 64 == 0 {
-            return crate::near::runs(a, b, b_at, 32, size / 64);
+            return crate::near::runs(pair.a, pair.b, pair.b_at, 32, size / 64);
         }
     }
-    sad_block(a, b, b_at, b_stride, w, h)
+    compare_blocks(SadBi, pair)
+}
+
+// The same of a packed block and one at the edges: where neither position is negative, it is compared where it stands.
+pub(crate) fn total_at_edges(pair: &EdgePair<i16>) -> Totals
+    requires { (pair.now.at ≡ 0) × (pair.now.stride ≡ pair.now.w) }
+    ensures { BiCounted pair.now.w pair.now.h (cell (pos 0) pair.now.org.now pair.now.at pair.now.stride) (edge_cell pair.now.reference.now pair.now.ref_stride pair.now.mv_x pair.now.mv_y) result.sum result.any }
+{
+    match pair.standing() {
+        Some(blocks) => total(&blocks),
+        None => compare_at_edges(SadBi, pair),
+    }
 }

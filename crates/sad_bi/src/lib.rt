@@ -2,7 +2,6 @@
 #![tactic(auto)]
 
 mod blocks;
-mod edges;
 mod marks;
 mod near;
 mod sad_bi;

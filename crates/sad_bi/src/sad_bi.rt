@@ -1,11 +1,13 @@
 // SAD of bi-prediction values, after the Rust's evce_sad_bi_16b and evce_sad_bi_16i. Document 01, "Distortion".
 // Differs from the Rust in: a call that breaks a test is refused; the depth is an argument.
 ghost use Rattle.std.specs.Prelude.{◌≡◌};
-ghost use Rattle.evc.specs.Answers.{distortion_reading};
+ghost use Rattle.evc.specs.Answers.{reading};
 ghost use Rattle.evc.specs.Calls.{sad_bi_16b, sad_bi_16i};
 ghost use Rattle.evc.specs.Planes.{plane_of};
 
-use evc::{Distortion, Refusal};
+use crate::blocks::{total, total_at_edges};
+use block_rows::{BlockPair, EdgePair};
+use evc::Refusal;
 
 pub fn evce_sad_bi_16b(
     bi: &[i16],
@@ -18,17 +20,17 @@ pub fn evce_sad_bi_16b(
     w: usize,
     h: usize,
     depth: u8,
-) -> Distortion
-    ensures { distortion_reading result ≡ sad_bi_16b bi.now (plane_of reference.now ref_width ref_height ref_stride) mv_x mv_y w h depth }
+) -> Result<u32, Refusal>
+    ensures { reading result ≡ sad_bi_16b bi.now (plane_of reference.now ref_width ref_height ref_stride) mv_x mv_y w h depth }
 {
     if plane_tests::bad_sides(w, h) {
-        return Distortion::Refused(Refusal::Size);
+        return Err(Refusal::Size);
     }
     if plane_tests::bad_depth(depth) {
-        return Distortion::Refused(Refusal::Depth);
+        return Err(Refusal::Depth);
     }
     if plane_tests::bad_plane(bi.len(), w, h, w) {
-        return Distortion::Refused(Refusal::Area);
+        return Err(Refusal::Area);
     }
     if plane_tests::outside_edges(
         reference.len(),
@@ -40,27 +42,52 @@ pub fn evce_sad_bi_16b(
         w,
         h,
     ) {
-        return Distortion::Refused(Refusal::Area);
+        return Err(Refusal::Area);
     }
-    let t = crate::edges::total(bi, reference, ref_stride, mv_x, mv_y, w, h);
+    let t = total_at_edges(&EdgePair {
+        org: bi,
+        at: 0,
+        stride: w,
+        reference,
+        ref_stride,
+        mv_x,
+        mv_y,
+        w,
+        h,
+    });
     sad_answer::sad_answer(t.sum, t.any, depth)
 }
 
-pub fn evce_sad_bi_16i(bi: &[i16], pred: &[u16], w: usize, h: usize, depth: u8) -> Distortion
-    ensures { distortion_reading result ≡ sad_bi_16i bi.now pred.now w h depth }
+pub fn evce_sad_bi_16i(
+    bi: &[i16],
+    pred: &[u16],
+    w: usize,
+    h: usize,
+    depth: u8,
+) -> Result<u32, Refusal>
+    ensures { reading result ≡ sad_bi_16i bi.now pred.now w h depth }
 {
     if plane_tests::bad_sides(w, h) {
-        return Distortion::Refused(Refusal::Size);
+        return Err(Refusal::Size);
     }
     if plane_tests::bad_depth(depth) {
-        return Distortion::Refused(Refusal::Depth);
+        return Err(Refusal::Depth);
     }
     if plane_tests::bad_plane(bi.len(), w, h, w) {
-        return Distortion::Refused(Refusal::Area);
+        return Err(Refusal::Area);
     }
     if plane_tests::outside_plane(pred.len(), w, h, w, 0, 0, w, h) {
-        return Distortion::Refused(Refusal::Area);
+        return Err(Refusal::Area);
     }
-    let t = crate::blocks::total(bi, pred, 0, w, w, h);
+    let t = total(&BlockPair {
+        a: bi,
+        a_at: 0,
+        a_stride: w,
+        b: pred,
+        b_at: 0,
+        b_stride: w,
+        w,
+        h,
+    });
     sad_answer::sad_answer(t.sum, t.any, depth)
 }

@@ -1,7 +1,6 @@
-// SSD, after the Rust's enc/sad.rs: each public function tests, then compares two blocks row by row.
+// SSD of two blocks of samples, after the Rust's enc/sad.rs: each public function tests, then compares row by row.
 #![tactic(auto)]
 
-mod blocks;
 mod edges;
 mod rows;
 mod ssd;

@@ -2,12 +2,13 @@
 // "Distortion".
 // Differs from the Rust in: samples are tested by the OR of all that are read, compared once by the caller, so that this loop has no way out and
 // becomes vector code. They are first cut to the depth's bits, which changes only what is refused.
-ghost use Rattle.std.specs.Prelude.{◌≡◌, ◌*◌, ◌%◌, ◌<◌, ◌≤◌};
+ghost use Rattle.std.specs.Prelude.{◌≡◌, ◌*◌, ◌%◌, ◌<◌, ◌≤◌, length};
 ghost use Rattle.std.specs.Int.Bits.{bit_or};
-ghost use Rattle.block_rows.specs.Totals.{RowsTotalled, TwoRows, apart, value_at};
+ghost use Rattle.std.proofs.Common.{rules};
+ghost use Rattle.block_rows.specs.Totals.{RowsTotalled, apart, value_at};
 ghost use Rattle.ssd.specs.Squares.{squared, squared_low};
 
-use block_rows::Totals;
+use block_rows::{Compare, RowPair, Totals};
 
 // By how many bits SSD divides a squared difference: 2 · (depth - 8) of a depth that is allowed, which the remainder doesn't change.
 fn square_shift(depth: u8) -> u8
@@ -37,23 +38,42 @@ fn share(p: u16, q: u16, shift: u8, w: usize) -> u32
     if w == 4 { s & 65535 } else { s }
 }
 
-// The squared differences of two rows, each divided by 2^(2 · (depth - 8)), added. Samples are cut to the depth's bits: so each summand has 16
-// bits and a row's sum 32, and a sample that is changed by it is one that the caller refuses.
-pub(crate) fn ssd_row(a: &[u16], b: &[u16], w: usize, depth: u8) -> Totals
-    requires two_rows { TwoRows w a.now b.now }
-    requires le_depth { (8 ≤ depth) × (depth ≤ 14) }
-    ensures { RowsTotalled (64 * 65535) (squared_low depth) bit_or w (value_at 0 a.now) (value_at 0 b.now) result.sum result.any }
-{
-    let mask = (1u16 << depth) - 1;
-    let shift = square_shift(depth);
-    let mut sum: u32 = 0;
-    let mut any: u16 = 0;
-    for i in 0..w {
-        let p = a[i];
-        let q = b[i];
-        any = any | (p | q);
-        sum = sum + share(p & mask, q & mask, shift, w);
+// Two blocks of samples of a depth that is allowed, compared by their squared differences.
+#[derive(Clone, Copy)]
+pub(crate) struct Ssd {
+    pub(crate) depth: u8,
+    ghost allowed: { (8 ≤ depth) × (depth ≤ 14) },
+}
+
+impl Compare<u16> for Ssd {
+    ghost none = { 0 };
+
+    ghost adds = { λ s. squared_low s.depth };
+
+    ghost marks = { λ _. bit_or };
+
+    ghost most = { 65535 };
+
+    ghost bounded = { Prim.search rules };
+
+    // The squared differences of two rows, each divided by 2^(2 · (depth - 8)), added. Samples are cut to the depth's bits: so each summand has 16
+    // bits and a row's sum 32, and a sample that is changed by it is one that the caller refuses.
+    fn row(self, rows: RowPair<u16>) -> Totals
+        ensures { RowsTotalled (64 * 65535) (squared_low self.depth) bit_or (length rows.entry.a.now) (value_at 0 rows.entry.a.now) (value_at 0 rows.entry.b.now) result.sum result.any }
+    {
+        let depth = self.depth;
+        let w = rows.a.len();
+        let mask = (1u16 << depth) - 1;
+        let shift = square_shift(depth);
+        let mut sum: u32 = 0;
+        let mut any: u16 = 0;
+        for i in 0..w {
+            let p = rows.a[i];
+            let q = rows.b[i];
+            any = any | (p | q);
+            sum = sum + share(p & mask, q & mask, shift, w);
+        }
+        let all = sum as u64;
+        Totals { sum: all, any }
     }
-    let all = sum as u64;
-    Totals { sum: all, any: any }
 }

@@ -1,26 +1,28 @@
 // SSD, after the Rust's evce_ssd_16b and evce_ssd_16i. Document 01, "Distortion".
 // Differs from the Rust in: a call that breaks a test is refused; the depth is an argument.
 ghost use Rattle.std.specs.Prelude.{◌≡◌, [], ◌∷◌, ◌^◌, ◌<◌, ◌≤◌, leb, pos};
-ghost use Rattle.evc.specs.Answers.{squared_reading};
+ghost use Rattle.evc.specs.Answers.{reading};
 ghost use Rattle.evc.specs.declared.Refusal.TheVariants as number;
 ghost use Rattle.evc.specs.Tests.{first, reply, ◌when◌};
 ghost use Rattle.evc.specs.Calls.{ssd_16b, ssd_16i};
 ghost use Rattle.evc.specs.Planes.{plane_of};
 
-use block_rows::Totals;
-use evc::{Refusal, SquaredDistortion};
+use crate::edges::TwoEdges;
+use crate::rows::Ssd;
+use block_rows::{BlockPair, Totals, compare_blocks};
+use evc::Refusal;
 
 // Every SSD ends here: a sample that is too large leaves a bit at or above the depth. The test stands here, since by a call of `bad_samples` the rows
 // at negative positions take more instructions.
-fn end(t: Totals, depth: u8) -> SquaredDistortion
+fn end(t: Totals, depth: u8) -> Result<i64, Refusal>
     requires { (depth ≤ 14) × (t.sum < 2 ^ 63) }
-    ensures { squared_reading result ≡ reply (first ((number.Sample when leb (2 ^ depth) t.any) ∷ [])) (pos t.sum) }
+    ensures { reading result ≡ reply (first ((number.Sample when leb (2 ^ depth) t.any) ∷ [])) (pos t.sum) }
 {
     if t.any >> depth != 0 {
-        return SquaredDistortion::Refused(Refusal::Sample);
+        return Err(Refusal::Sample);
     }
     let ssd = t.sum as i64;
-    SquaredDistortion::Value(ssd)
+    Ok(ssd)
 }
 
 pub fn evce_ssd_16b(
@@ -34,27 +36,37 @@ pub fn evce_ssd_16b(
     log2_h: usize,
     cur: &[u16],
     depth: u8,
-) -> SquaredDistortion
-    ensures { squared_reading result ≡ ssd_16b (plane_of org.now width height stride) x y log2_w log2_h cur.now depth }
+) -> Result<i64, Refusal>
+    ensures { reading result ≡ ssd_16b (plane_of org.now width height stride) x y log2_w log2_h cur.now depth }
 {
     if plane_tests::bad_logs(log2_w, log2_h) {
-        return SquaredDistortion::Refused(Refusal::Size);
+        return Err(Refusal::Size);
     }
     let w = 1usize << log2_w;
     let h = 1usize << log2_h;
     if plane_tests::bad_depth(depth) {
-        return SquaredDistortion::Refused(Refusal::Depth);
+        return Err(Refusal::Depth);
     }
     if plane_tests::outside_plane(org.len(), width, height, stride, x, y, w, h) {
-        return SquaredDistortion::Refused(Refusal::Area);
+        return Err(Refusal::Area);
     }
     if plane_tests::outside_plane(cur.len(), w, h, w, 0, 0, w, h) {
-        return SquaredDistortion::Refused(Refusal::Area);
+        return Err(Refusal::Area);
     }
-    end(
-        crate::blocks::ssd_block(org, y * stride + x, stride, cur, 0, w, w, h, depth),
-        depth,
-    )
+    let t = compare_blocks(
+        Ssd { depth },
+        &BlockPair {
+            a: org,
+            a_at: y * stride + x,
+            a_stride: stride,
+            b: cur,
+            b_at: 0,
+            b_stride: w,
+            w,
+            h,
+        },
+    );
+    end(t, depth)
 }
 
 pub fn evce_ssd_16i(
@@ -71,25 +83,35 @@ pub fn evce_ssd_16i(
     log2_w: usize,
     log2_h: usize,
     depth: u8,
-) -> SquaredDistortion
-    ensures { squared_reading result ≡ ssd_16i (plane_of one.now width1 height1 stride1) (plane_of two.now width2 height2 stride2) x y log2_w log2_h depth }
+) -> Result<i64, Refusal>
+    ensures { reading result ≡ ssd_16i (plane_of one.now width1 height1 stride1) (plane_of two.now width2 height2 stride2) x y log2_w log2_h depth }
 {
     if plane_tests::bad_logs(log2_w, log2_h) {
-        return SquaredDistortion::Refused(Refusal::Size);
+        return Err(Refusal::Size);
     }
     let w = 1usize << log2_w;
     let h = 1usize << log2_h;
     if plane_tests::bad_depth(depth) {
-        return SquaredDistortion::Refused(Refusal::Depth);
+        return Err(Refusal::Depth);
     }
     if plane_tests::outside_edges(one.len(), width1, height1, stride1, x, y, w, h) {
-        return SquaredDistortion::Refused(Refusal::Area);
+        return Err(Refusal::Area);
     }
     if plane_tests::outside_edges(two.len(), width2, height2, stride2, x, y, w, h) {
-        return SquaredDistortion::Refused(Refusal::Area);
+        return Err(Refusal::Area);
     }
-    end(
-        crate::edges::total(one, stride1, two, stride2, x, y, w, h, depth),
-        depth,
-    )
+    let t = crate::edges::total(
+        Ssd { depth },
+        &TwoEdges {
+            one,
+            stride1,
+            two,
+            stride2,
+            x,
+            y,
+            w,
+            h,
+        },
+    );
+    end(t, depth)
 }

@@ -109,11 +109,11 @@ inside c =
     let a = c.args in
     let w = shifted a.log2_w in
     let h = shifted a.log2_h in
-    let k = small (goal.at.overflow_mul-y c).Else-bad_logs in
+    let k = small (goal.at.overflow_mul-pair c).Else-bad_logs in
     let org = is_outside_plane (length a.org.now) a.width a.height a.stride a.x a.y w h in
     let cur = is_outside_plane (length a.cur.now) w h w 0 0 w h in
     let room = ltb (length a.diff.now) (h * w) in
-    let f = areas (goal.at.overflow_mul-y c).After-outside_plane k ∙ c.if-outside_plane-cur.false in
+    let f = areas (goal.at.overflow_mul-pair c).After-outside_plane k ∙ c.if-outside_plane-cur.false in
     let g = neither_left (org || cur) room f in (
       record {
         narrow = k.0.1;
@@ -126,16 +126,21 @@ inside c =
       ltb-false (length a.diff.now) (h * w) (neither_right (org || cur) room f),
     )
 
-pub overflow_mul-y : goal.overflow_mul-y
-overflow_mul-y c = omega (arith, (inside c).0.one)
+pub overflow_mul-pair : goal.overflow_mul-pair
+overflow_mul-pair c = omega (arith, (inside c).0.one)
 
-pub overflow_add-y : goal.overflow_add-y
-overflow_add-y c = omega (arith, (inside c).0.one)
+pub overflow_add-pair : goal.overflow_add-pair
+overflow_add-pair c = omega (arith, (inside c).0.one)
+
+pub invariant_of-pair : goal.invariant_of-pair
+invariant_of-pair c = record { inside = (inside c).0 }
 
 pub of_blocks-requires : goal.of_blocks-requires
 of_blocks-requires c =
-    let k = inside (goal.at.of_blocks-requires c).Else-outside_plane-cur in
-    record { two_blocks = k.0; depth_and_room = ((outside-no 8 14 _ (deep (goal.at.of_blocks-requires c).Else-bad_depth)).1, k.1) }
+    record {
+      deep = (outside-no 8 14 _ (deep (goal.at.of_blocks-requires c).Else-bad_depth)).1;
+      room = (inside (goal.at.of_blocks-requires c).Else-outside_plane-cur).1;
+    }
 
 pub returns : goal.returns
 returns c =

@@ -73,10 +73,8 @@ overflow_mul-y c = omega (arith, (ready c).one)
 pub overflow_add-y : goal.overflow_add-y
 overflow_add-y c = omega (arith, (ready c).one)
 
-pub total-t-requires : goal.total-t-requires
-total-t-requires c =
-    let f = c.ranges in
-    rw (to_z-of_z f.mv_x, to_z-of_z f.mv_y) (ready c)
+pub invariant_of-total : goal.invariant_of-total
+invariant_of-total c = record { inside = let f = c.ranges in rw (to_z-of_z f.mv_x, to_z-of_z f.mv_y) (ready c) }
 
 pub returns : goal.returns
 returns c =

@@ -64,8 +64,8 @@ overflow_mul-y c = omega (arith, (blocks c).one)
 pub overflow_add-y : goal.overflow_add-y
 overflow_add-y c = omega (arith, (blocks c).one)
 
-pub sad_block-t-requires : goal.sad_block-t-requires
-sad_block-t-requires c = blocks c
+pub invariant_of-compare_blocks : goal.invariant_of-compare_blocks
+invariant_of-compare_blocks c = record { inside = blocks c }
 
 pub returns : goal.returns
 returns c =
@@ -73,5 +73,5 @@ returns c =
     let a = c.args in
     sad-ends (plane-alike a.org.now a.width a.height a.stride a.x a.y a.w a.h a.depth (a.y * a.stride + a.x) refl)
     (plane-alike a.pred.now a.w a.h a.w 0 0 a.w a.h a.depth 0 (omega arith)) a.depth
-    (c.sad_answer.ensures ∙ sad-totalled _ _ _ _ _ (outside-no 8 14 a.depth d) c.sad_block-t.ensures)
+    (c.sad_answer.ensures ∙ sad-totalled _ _ _ _ _ (outside-no 8 14 a.depth d) c.compare_blocks-t.ensures)
     (sized (goal.at.returns c).Else-bad_sides) d (one (goal.at.returns c).Else-outside_plane) (two (goal.at.returns c).Else-outside_plane-2)

@@ -76,31 +76,33 @@ in-runs w h n d m k s t e f g u z p =
     record { small = f; few = g; one = omega arith; two = omega arith }
 
 pub overflow_mul-size : goal.overflow_mul-size
-overflow_mul-size c = omega (arith, size-le c.requires.narrow c.requires.low)
+overflow_mul-size c = let k = c.args.pair.now.inside in omega (arith, size-le k.narrow k.low)
 
 pub runs-requires : goal.runs-requires
 runs-requires c =
-    let a = c.args in
-    in-runs a.w a.h 256 512 (length a.a.now) (length a.b.now) a.b_at a.b_stride (omega arith) (omega arith)
-    (omega (arith, size-le c.requires.narrow c.requires.low)) c.if-b_stride-w.true c.if-size-eq0.true c.requires
+    let p = c.args.pair.now in
+    let k = rw (c.requires.0, c.requires.1) at p.inside in
+    in-runs p.w p.h 256 512 (length p.a.now) (length p.b.now) p.b_at p.b_stride (omega arith) (omega arith)
+    (omega (arith, size-le k.narrow k.low)) c.if-pair.true c.if-size-eq0.true k
 
 pub returns-then-size-eq0 : goal.returns-then-size-eq0
 returns-then-size-eq0 c =
-    let a = c.args in
-    counted a.a.now a.b.now a.b_at a.w a.h 256 (a.w * a.h / 512) a.b_stride c.if-b_stride-w.true
-    (divided a.w a.h 512 c.if-size-eq0.true) c.runs.ensures
+    let p = c.args.pair.now in
+    rw (c.requires.0, c.requires.1) (counted p.a.now p.b.now p.b_at p.w p.h 256 (p.w * p.h / 512) p.b_stride c.if-pair.true
+    (divided p.w p.h 512 c.if-size-eq0.true) c.runs.ensures)
 
 pub runs-requires-then-size-eq0-2 : goal.runs-requires-then-size-eq0-2
 runs-requires-then-size-eq0-2 c =
-    let a = c.args in
-    in-runs a.w a.h 32 64 (length a.a.now) (length a.b.now) a.b_at a.b_stride (omega arith) (omega arith)
-    (omega (arith, size-le c.requires.narrow c.requires.low)) c.if-b_stride-w.true c.if-size-eq0-2.true c.requires
+    let p = c.args.pair.now in
+    let k = rw (c.requires.0, c.requires.1) at p.inside in
+    in-runs p.w p.h 32 64 (length p.a.now) (length p.b.now) p.b_at p.b_stride (omega arith) (omega arith)
+    (omega (arith, size-le k.narrow k.low)) c.if-pair.true c.if-size-eq0-2.true k
 
 pub returns-then-size-eq0-2 : goal.returns-then-size-eq0-2
 returns-then-size-eq0-2 c =
-    let a = c.args in
-    counted a.a.now a.b.now a.b_at a.w a.h 32 (a.w * a.h / 64) a.b_stride c.if-b_stride-w.true
-    (divided a.w a.h 64 c.if-size-eq0-2.true) c.runs-then-size-eq0-2.ensures
+    let p = c.args.pair.now in
+    rw (c.requires.0, c.requires.1) (counted p.a.now p.b.now p.b_at p.w p.h 32 (p.w * p.h / 64) p.b_stride c.if-pair.true
+    (divided p.w p.h 64 c.if-size-eq0-2.true) c.runs-then-size-eq0-2.ensures)
 
 pub returns : goal.returns
-returns c = counted-all _ _ _ _ c.sad_block.ensures
+returns c = counted-all _ _ _ _ c.compare_blocks.ensures

@@ -54,16 +54,14 @@ ready :
     AtEdges a.w a.h (length a.bi.now) 0 a.w (length a.reference.now) a.ref_stride a.mv_x a.mv_y
 ready c =
     let a = c.args in
-    let k = sad-sides a.w a.h (sized (goal.at.total-t-requires c).Else-bad_sides) in
+    let k = sad-sides a.w a.h (sized (goal.at.invariant_of-total_at_edges c).Else-bad_sides) in
     record {
-      one = (well-formed (length a.bi.now) a.w a.h a.w (one (goal.at.total-t-requires c).Else-bad_plane)).long;
+      one = (well-formed (length a.bi.now) a.w a.h a.w (one (goal.at.invariant_of-total_at_edges c).Else-bad_plane)).long;
       two = edges-in (length a.reference.now) a.ref_width a.ref_height a.ref_stride a.mv_x a.mv_y a.w a.h k.0 k.1 (two c);
     }
 
-pub total-t-requires : goal.total-t-requires
-total-t-requires c =
-    let f = c.ranges in
-    rw (to_z-of_z f.mv_x, to_z-of_z f.mv_y) (ready c)
+pub invariant_of-total_at_edges : goal.invariant_of-total_at_edges
+invariant_of-total_at_edges c = let f = c.ranges in record { inside = rw (to_z-of_z f.mv_x, to_z-of_z f.mv_y) (ready c) }
 
 pub returns : goal.returns
 returns c =
@@ -72,5 +70,5 @@ returns c =
     sad-ends (bi-alike a.bi.now a.w a.h)
     (edges-alike a.reference.now a.ref_width a.ref_height a.ref_stride a.mv_x a.mv_y a.w a.h a.depth) a.depth
     (c.sad_answer.ensures
-    ∙ bi-totalled _ _ _ _ _ (outside-no 8 14 a.depth d) (rw (to_z-of_z c.ranges.mv_x, to_z-of_z c.ranges.mv_y) at c.total-t.ensures))
+    ∙ bi-totalled _ _ _ _ _ (outside-no 8 14 a.depth d) (rw (to_z-of_z c.ranges.mv_x, to_z-of_z c.ranges.mv_y) at c.total_at_edges-t.ensures))
     (sized (goal.at.returns c).Else-bad_sides) d (one (goal.at.returns c).Else-bad_plane) (two (goal.at.returns c).Else-outside_edges)

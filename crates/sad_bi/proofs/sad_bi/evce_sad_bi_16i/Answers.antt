@@ -41,15 +41,17 @@ returns-then-outside_plane c =
     sad-second _ _ _ _ _ (sized (goal.at.returns-then-outside_plane c).Else-bad_sides) (deep (goal.at.returns-then-outside_plane c).Else-bad_depth) (one (goal.at.returns-then-outside_plane c).Else-bad_plane)
     (sym c.outside_plane.ensures ∙ c.if-outside_plane.true)
 
-pub total-t-requires : goal.total-t-requires
-total-t-requires c =
+pub invariant_of-total : goal.invariant_of-total
+invariant_of-total c =
     let a = c.args in
-    let k = sad-sides a.w a.h (sized (goal.at.total-t-requires c).Else-bad_sides) in
+    let k = sad-sides a.w a.h (sized (goal.at.invariant_of-total c).Else-bad_sides) in
     record {
-      narrow = k.0.1;
-      low = k.1.1;
-      one = (well-formed (length a.bi.now) a.w a.h a.w (one (goal.at.total-t-requires c).Else-bad_plane)).long;
-      two = (is-inside (length a.pred.now) a.w a.h a.w 0 0 a.w a.h (two c)).formed.long;
+      inside = record {
+        narrow = k.0.1;
+        low = k.1.1;
+        one = (well-formed (length a.bi.now) a.w a.h a.w (one (goal.at.invariant_of-total c).Else-bad_plane)).long;
+        two = (is-inside (length a.pred.now) a.w a.h a.w 0 0 a.w a.h (two c)).formed.long;
+      };
     }
 
 pub returns : goal.returns

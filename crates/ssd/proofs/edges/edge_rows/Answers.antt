@@ -1,12 +1,8 @@
 -- `ssd::edges::edge_rows` meets its contract. Assumes nothing.
-use mathlib.Core.Path.{refl}
-use Prim.Native.Nat.{◌*◌, ◌<◌}
-use native.Mathlib.Omega.{arith}
-use lib.Bits.{bit_or}
-use lib.ListN.{length}
+use Rattle.std.proofs.Common.{◌*◌, ◌<◌, length, bit_or, refl, arith}
 use mir.Syntax.{w16}
-use mir.Val.{to_z, of_z}
 use mir.Facts.{to_z-of_z}
+use borrow.Author.Rules.{sfits_of}
 use Rattle.block_rows.proofs.Running.{running-start, running-row, running-end, running-next}
 use Rattle.block_rows.proofs.Cells.{rows_alike}
 use Rattle.block_rows.proofs.AtEdges.{row-starts, edge_same}
@@ -18,74 +14,36 @@ pub loop-j-init : goal.loop-j-init
 loop-j-init c = running-start
 
 pub overflow_cast-j : goal.overflow_cast-j
-overflow_cast-j c = omega (arith, c.requires.edges_in.low)
-
-pub row_start-row-requires : goal.row_start-row-requires
-row_start-row-requires c = tt
+overflow_cast-j c = omega (arith, c.args.pair.now.first.low)
 
 -- row j of each block starts inside its plane
-inside1 : (c : After-row_start-row) → let a = c.args in c.row_start-row.result.row * a.stride1 < length a.one.now
-inside1 c = row-starts c.requires.edges_in c.ranges.y c.loop-j-test.true c.row_start-row.ensures.0
+inside1 : (c : After-row_start-row) → let p = c.args.pair.now in c.row_start-row.result.row * p.stride1 < length p.one.now
+inside1 c = row-starts c.args.pair.now.first (sfits_of c.fits-pair.1.1.1.1.1.0.1) c.loop-j-test.true c.row_start-row.ensures.0
 
-inside2 : (c : After-row_start-row) → let a = c.args in c.row_start-row.result.row * a.stride2 < length a.two.now
-inside2 c = row-starts c.requires.second_edges_in c.ranges.y c.loop-j-test.true c.row_start-row.ensures.0
+inside2 : (c : After-row_start-row) → let p = c.args.pair.now in c.row_start-row.result.row * p.stride2 < length p.two.now
+inside2 c = row-starts c.args.pair.now.second (sfits_of c.fits-pair.1.1.1.1.1.0.1) c.loop-j-test.true c.row_start-row.ensures.0
 
 pub overflow_mul-p : goal.overflow_mul-p
-overflow_mul-p c = omega (arith, inside1 c, c.well_formed)
+overflow_mul-p c = omega (arith, inside1 (goal.at.overflow_mul-p c).After-row_start-row)
 
 pub overflow_mul-q : goal.overflow_mul-q
-overflow_mul-q c = omega (arith, inside2 c, c.well_formed)
-
-pub offset_bounds-one-p : goal.offset_bounds-one-p
-offset_bounds-one-p c = omega (arith, inside1 c, c.well_formed)
-
-pub slice_bounds-edge_row-count : goal.slice_bounds-edge_row-count
-slice_bounds-edge_row-count c = omega (arith, inside1 c)
-
-pub slice_bounds-edge_row-start : goal.slice_bounds-edge_row-start
-slice_bounds-edge_row-start c = omega (arith, inside1 c)
-
-pub slice_bounds-edge_row-end : goal.slice_bounds-edge_row-end
-slice_bounds-edge_row-end c = omega arith
-
-pub offset_bounds-two-q : goal.offset_bounds-two-q
-offset_bounds-two-q c = omega (arith, inside2 (goal.at.offset_bounds-two-q c).After-row_start-row, c.well_formed)
-
-pub slice_bounds-edge_row-count-in-loop-j : goal.slice_bounds-edge_row-count-in-loop-j
-slice_bounds-edge_row-count-in-loop-j c = omega (arith, inside2 (goal.at.slice_bounds-edge_row-count-in-loop-j c).After-row_start-row)
-
-pub slice_bounds-edge_row-start-in-loop-j : goal.slice_bounds-edge_row-start-in-loop-j
-slice_bounds-edge_row-start-in-loop-j c = omega (arith, inside2 (goal.at.slice_bounds-edge_row-start-in-loop-j c).After-row_start-row)
-
-pub slice_bounds-edge_row-end-in-loop-j : goal.slice_bounds-edge_row-end-in-loop-j
-slice_bounds-edge_row-end-in-loop-j c = omega arith
-
-pub edge_row-t-requires : goal.edge_row-t-requires
-edge_row-t-requires c =
-    record { w_bound = c.requires.edges_in.narrow; le_depth = c.requires.le_depth }
+overflow_mul-q c = omega (arith, inside2 (goal.at.overflow_mul-q c).After-row_start-row)
 
 pub overflow_add-sum : goal.overflow_add-sum
 overflow_add-sum c =
-    omega (arith, running-next c.loop-j.invariant (omega arith) c.requires.edges_in.low c.edge_row-t.ensures.most)
-
-pub overflow_step-j : goal.overflow_step-j
-overflow_step-j c = omega arith
-
-pub loop-j-smaller : goal.loop-j-smaller
-loop-j-smaller c = omega arith
+    omega (arith, running-next c.loop-j.invariant (omega arith) c.args.pair.now.first.low c.edge_row-t.ensures.most)
 
 -- what the rows told, said of the blocks
 pub loop-j-preserved : goal.loop-j-preserved
 loop-j-preserved c =
-    let a = c.args in
-    let x = to_z w16 (of_z w16 a.x) in
-    let y = to_z w16 (of_z w16 a.y) in
-    let e = c.row_start-row.ensures.0 in
+    let p = c.args.pair.now in
+    let x = to_z-of_z (sfits_of {w = w16} {z = p.x} c.fits-pair.1.1.1.1.0.1) in
+    let y = to_z-of_z (sfits_of {w = w16} {z = p.y} c.fits-pair.1.1.1.1.1.0.1) in
+    let e = rw y at c.row_start-row.ensures.0 in
     running-row c.loop-j.invariant (omega arith)
-    (rows_alike (squared_low a.depth) bit_or (edge_same a.one.now a.stride1 x y c.loop-j.j e) (edge_same a.two.now a.stride2 x y c.loop-j.j e)
-    c.edge_row-t.ensures)
+    (rows_alike (squared_low c.args.ssd.depth) bit_or (edge_same p.one.now p.stride1 p.x p.y c.loop-j.j e) (edge_same p.two.now p.stride2 p.x p.y c.loop-j.j e)
+    (rw x at c.edge_row-t.ensures))
     refl refl
 
 pub returns : goal.returns
-returns c =
-    rw (to_z-of_z c.ranges.x, to_z-of_z c.ranges.y) at (running-end c.loop-j.invariant (omega arith) c.requires.edges_in.low)
+returns c = running-end c.loop-j.invariant (omega arith) c.args.pair.now.first.low

@@ -1,59 +1,43 @@
 -- `ssd::edges::total` meets its contract. Assumes nothing.
-use Prim.Native.Nat.{◌+◌, ◌*◌, ◌<◌}
-use native.Mathlib.Omega.{arith}
-use lib.Bits.{bit_or}
-use lib.ListN.{length}
-use mir.Facts.{to_z-of_z}
+use Rattle.std.proofs.Common.{bit_or}
+use mir.Syntax.{w16}
+use mir.Val.{SFits}
+use borrow.Author.Rules.{sfits_of}
 use Rattle.block_rows.proofs.Cells.{blocks-alike}
-use Rattle.block_rows.proofs.AtEdges.{Plain, is_plain, stands, stands-in, plain-same, plain-inside}
+use Rattle.block_rows.proofs.AtEdges.{Plain, is_plain, stands, plain-same, plain-inside}
 use Rattle.ssd.specs.Squares.{squared_low}
-use Rattle.ssd.proofs.edges.total.Goals.{After-row_start-first, Else-negative}
+use Rattle.ssd.proofs.edges.total.Goals.{Else-negative}
 use Rattle.ssd.proofs.edges.total.Goals as goal
 
--- neither position is negative
-plain : (c : Else-negative) → let a = c.args in Plain a.x a.y
-plain c = is_plain c.ranges.x c.ranges.y c.negative.ensures c.if-negative.false
+-- the positions have 16 bits
+x-fits : (c : Else-negative) → SFits w16 c.args.pair.now.x
+x-fits c = sfits_of c.fits-pair.1.1.1.1.0.1
 
--- the blocks' first samples stand inside their planes
-inside1 : (c : After-row_start-first) → let a = c.args in c.row_start-first.result.row * a.stride1 + c.row_start-first.result.column < length a.one.now
-inside1 c = stands-in c.args.stride1 c.ranges.x c.ranges.y c.row_start-first.ensures c.requires.edges_in
+y-fits : (c : Else-negative) → SFits w16 c.args.pair.now.y
+y-fits c = sfits_of c.fits-pair.1.1.1.1.1.0.1
 
-inside2 : (c : After-row_start-first) → let a = c.args in c.row_start-first.result.row * a.stride2 + c.row_start-first.result.column < length a.two.now
-inside2 c = stands-in c.args.stride2 c.ranges.x c.ranges.y c.row_start-first.ensures c.requires.second_edges_in
+-- neither is negative
+plain : (c : Else-negative) → let p = c.args.pair.now in Plain p.x p.y
+plain c = is_plain (x-fits c) (y-fits c) c.negative.ensures c.if-negative.false
 
-pub returns-then-negative : goal.returns-then-negative
-returns-then-negative c = let f = c.ranges in rw (to_z-of_z f.x, to_z-of_z f.y) at c.edge_rows.ensures
-
-pub overflow_mul-p : goal.overflow_mul-p
-overflow_mul-p c = omega (arith, inside1 c, c.well_formed)
-
-pub overflow_add-p : goal.overflow_add-p
-overflow_add-p c = omega (arith, inside1 c, c.well_formed)
-
-pub overflow_mul-q : goal.overflow_mul-q
-overflow_mul-q c = omega (arith, inside2 c, c.well_formed)
-
-pub overflow_add-q : goal.overflow_add-q
-overflow_add-q c = omega (arith, inside2 c, c.well_formed)
-
-pub ssd_block-requires : goal.ssd_block-requires
-ssd_block-requires c =
-    let a = c.args in
-    let k = plain (goal.at.ssd_block-requires c).Else-negative in
+pub invariant_of-compare_blocks : goal.invariant_of-compare_blocks
+invariant_of-compare_blocks c =
+    let p = c.args.pair.now in
+    let b = (goal.at.invariant_of-compare_blocks c).Else-negative in
+    let e = c.row_start-first.ensures in
     record {
-      two_blocks = record {
-        narrow = c.requires.edges_in.narrow;
-        low = c.requires.edges_in.low;
-        one = plain-inside a.stride1 k (stands a.stride1 c.ranges.x c.ranges.y c.row_start-first.ensures) c.requires.edges_in;
-        two = plain-inside a.stride2 k (stands a.stride2 c.ranges.x c.ranges.y c.row_start-first.ensures) c.requires.second_edges_in;
+      inside = record {
+        narrow = p.first.narrow;
+        low = p.first.low;
+        one = plain-inside p.stride1 (plain b) (stands p.stride1 (x-fits b) (y-fits b) e) p.first;
+        two = plain-inside p.stride2 (plain b) (stands p.stride2 (x-fits b) (y-fits b) e) p.second;
       };
-      le_depth = c.requires.le_depth;
     }
 
 pub returns : goal.returns
 returns c =
-    let a = c.args in
-    let k = plain (goal.at.returns c).Else-negative in
+    let p = c.args.pair.now in
+    let b = (goal.at.returns c).Else-negative in
     let e = c.row_start-first.ensures in
-    blocks-alike (squared_low a.depth) bit_or a.w (plain-same a.stride1 k (stands a.stride1 c.ranges.x c.ranges.y e) a.one.now)
-    (plain-same a.stride2 k (stands a.stride2 c.ranges.x c.ranges.y e) a.two.now) c.ssd_block.ensures
+    blocks-alike (squared_low c.args.ssd.depth) bit_or p.w (plain-same p.stride1 (plain b) (stands p.stride1 (x-fits b) (y-fits b) e) p.one.now)
+    (plain-same p.stride2 (plain b) (stands p.stride2 (x-fits b) (y-fits b) e) p.two.now) c.compare_blocks.ensures

@@ -88,20 +88,18 @@ ready c =
     let a = c.args in
     let w = shifted a.log2_w in
     let h = shifted a.log2_h in
-    let k = shifted-sides a.log2_w a.log2_h (sized (goal.at.total-requires c).Else-bad_logs) in (
-      edges-in (length a.one.now) a.width1 a.height1 a.stride1 a.x a.y w h k.0 k.1 (one (goal.at.total-requires c).Else-outside_edges),
+    let k = shifted-sides a.log2_w a.log2_h (sized (goal.at.invariant_of-total c).Else-bad_logs) in (
+      edges-in (length a.one.now) a.width1 a.height1 a.stride1 a.x a.y w h k.0 k.1 (one (goal.at.invariant_of-total c).Else-outside_edges),
       edges-in (length a.two.now) a.width2 a.height2 a.stride2 a.x a.y w h k.0 k.1 (two c),
     )
 
-pub total-requires : goal.total-requires
-total-requires c = record {
-  edges_in = rw (to_z-of_z c.ranges.x, to_z-of_z c.ranges.y) (ready c).0;
-  second_edges_in = rw (to_z-of_z c.ranges.x, to_z-of_z c.ranges.y) (ready c).1;
-  le_depth = outside-no 8 14 c.args.depth (deep (goal.at.total-requires c).Else-bad_depth);
-}
+pub invariant_of-total : goal.invariant_of-total
+invariant_of-total c =
+    let f = c.ranges in
+    record { first = rw (to_z-of_z f.x, to_z-of_z f.y) (ready c).0; second = rw (to_z-of_z f.x, to_z-of_z f.y) (ready c).1 }
 
 pub end-requires : goal.end-requires
-end-requires c = ((outside-no 8 14 _ (deep (goal.at.end-requires c).Else-bad_depth)).1, omega (arith, c.total.ensures.most))
+end-requires c = ((outside-no 8 14 _ (deep (goal.at.end-requires c).Else-bad_depth)).1, omega (arith, c.total-t.ensures.most))
 
 pub returns : goal.returns
 returns c =
@@ -110,5 +108,5 @@ returns c =
     let h = shifted a.log2_h in
     let p = edges-alike a.one.now a.width1 a.height1 a.stride1 a.x a.y w h a.depth in
     let q = edges-alike a.two.now a.width2 a.height2 a.stride2 a.x a.y w h a.depth in
-    ssd-alike p q a.depth (c.end.ensures ∙ ssd-totalled w h a.depth _ _ (rw (to_z-of_z c.ranges.x, to_z-of_z c.ranges.y) at c.total.ensures))
+    ssd-alike p q a.depth (c.end.ensures ∙ ssd-totalled w h a.depth _ _ (rw (to_z-of_z c.ranges.x, to_z-of_z c.ranges.y) at c.total-t.ensures))
     ∙ ssd-rest a.log2_w a.log2_h a.depth (A (goal.at.returns c).Start) (B (goal.at.returns c).Start) (sized (goal.at.returns c).Else-bad_logs) (deep (goal.at.returns c).Else-bad_depth) (one (goal.at.returns c).Else-outside_edges) (two (goal.at.returns c).Else-outside_edges-2)
