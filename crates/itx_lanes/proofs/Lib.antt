@@ -8,3 +8,5 @@ pub mod Bounds
 pub mod Steps
 -- a pass over the lanes, and where the last one ends
 pub mod Passes
+-- which size the places of the sums say
+pub mod Sizes

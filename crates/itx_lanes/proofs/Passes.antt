@@ -14,8 +14,9 @@ use Rattle.integers.proofs.Sum.{sum-ext}
 use Rattle.integers.proofs.Written.{is-tab}
 use Rattle.evc.specs.Table.{tm64}
 use Rattle.itx_table.proofs.Rule.{entry}
-use Rattle.itx_halving.specs.Line.{line, dot, Part}
+use Rattle.itx_halving.specs.Line.{line, dot, Sums, Part}
 use Rattle.itx_halving.proofs.Bounds.{multiple}
+use Rattle.itx_halving.proofs.Step.{none, all}
 use Rattle.itx_lanes.specs.Lanes.{lane, lane_sum}
 use Rattle.itx_lanes.specs.Steps.{lane_list, flat_entry, Narrow, Picks, Halving, Kept, OfLane, Stepped, All, Sized}
 use Rattle.itx_lanes.proofs.AsLine.{lane-at}
@@ -78,6 +79,22 @@ module _ {s e₀ e : List ℤ} {m a b j : ℕ} (g : Halving e₀ m) (p : Passed 
 pub once_more : {s e : List ℤ} {m n r : ℕ} → All s e m n r → All s e m n (r + r)
 once_more g = record { level = g.level; part = g.part; narrow = λ j h. coarser (g.narrow j h) }
 
+-- where a level begins, and where it ends
+pub begun-level : {s e : List ℤ} {m : ℕ} → 64 / m ≡ 32 / m + 32 / m → Halving e m → Sized s e m → All s e m 0 (32 / m + 32 / m)
+begun-level {s} {e} {m} w g h =
+    record {
+      level = g;
+      part = λ j p. none (subst (λ (q : ℕ). Sums (lane_list e j) flat_entry q m (lane_list s j)) w (h.sums j p));
+      narrow = λ j p. subst (λ (q : ℕ). Narrow s q j) w (h.narrow j p);
+    }
+
+pub ended-level : {s e : List ℤ} {m : ℕ} → 64 / (m + m) ≡ 32 / m → All s e m m (32 / m) → Sized s e (m + m)
+ended-level {s} {e} {m} w g =
+    record {
+      sums = λ j p. subst (λ (q : ℕ). Sums (lane_list e j) flat_entry q (m + m) (lane_list s j)) (sym w) (all (g.part j p));
+      narrow = λ j p. subst (λ (q : ℕ). Narrow s q j) (sym w) (g.narrow j p);
+    }
+
 -- ---- the sums of size N, where they end
 module _ (N : ℕ) (whole : N * (64 / N) ≡ 64) (some : 0 < 64 / N) (most : N ≤ 64) where
   same-dot : (s : List ℤ) (n j : ℕ) → n < 64 → j < 16 → dot flat_entry (64 / N) N n (line (lane_list s j)) ≡ dot tm64 (64 / N) N n (lane s j)
@@ -96,3 +113,10 @@ module _ (N : ℕ) (whole : N * (64 / N) ≡ 64) (some : 0 < 64 / N) (most : N �
       let w : p / 16 * 16 + p % 16 ≡ p = omega arith in
       ap (λ (i : ℕ). get_or e i (pos 0)) (sym w) ∙ sym (lane-at e (p % 16) (p / 16) (omega arith))
       ∙ (g.sums (p % 16) j).at (p / 16) r ∙ same-dot s (p / 16) (p % 16) (omega arith) j)
+
+-- the same, where the number of places says the size
+pub sums_by : (N : ℕ) → N * (64 / N) ≡ 64 → 0 < 64 / N → N ≤ 64 → {P : ℕ} (s e : List ℤ) → P ≡ N * 16 → length e ≡ P → Sized s e N → e ≡ tab P (lane_sum (P / 16) s)
+sums_by N whole some most {P} s e p l g =
+    let k : N * 16 / 16 ≡ N = omega arith in
+    subst (λ (q : ℕ). e ≡ tab q (lane_sum (q / 16) s)) (sym p)
+    (subst (λ (n : ℕ). e ≡ tab (N * 16) (lane_sum n s)) (sym k) (sums-are N whole some most s e (l ∙ p) g))

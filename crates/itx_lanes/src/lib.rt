@@ -3,9 +3,6 @@
 
 mod base;
 mod lanes;
-mod level16;
-mod level32;
-mod level8;
-mod sums;
+mod levels;
 
-pub use sums::{sums16, sums32, sums64};
+pub use levels::sums;

@@ -1,9 +1,0 @@
--- `itx_lanes::sums::sums64` meets its contract: level after level. Assumes nothing.
-use borrow.Author.Rules.{rules}
-use mathlib.Core.Path.{refl}
-use lib.Dec.{lit<, lit≤}
-use Rattle.itx_lanes.proofs.Passes.{sums-are}
-use Rattle.itx_lanes.proofs.sums.sums64.Goals as goal
-
-pub returns : goal.returns
-returns c = sums-are 64 refl (lit< tt) (lit≤ tt) _ _ (search rules) c.level32.ensures
