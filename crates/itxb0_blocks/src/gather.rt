@@ -1,5 +1,5 @@
 // A block of 16 lines of the input, in the layout of `itx_lanes`: input k of the block's line j in lane j of row k·(64/N). Document 01, "The two stages".
-ghost use Rattle.std.specs.Prelude.{◌≡◌, ◌+◌, ◌*◌, ◌≤◌, length, get_or, pos};
+ghost use Rattle.std.specs.Prelude.{◌≡◌, ◌+◌, ◌*◌, ◌/◌, ◌≤◌, length, get_or, pos};
 ghost use Rattle.itx_halving.specs.Blocks.{input, Run, Rows, Source};
 
 // Sixteen numbers from place `from` of the input, to place `to` of a block.
@@ -12,12 +12,13 @@ fn copy_row(src: &[i16], s: &mut [i16; 1024], from: usize, to: usize)
     }
 }
 
-// The lines j0 .. j0 + 15 of n inputs each, p places of the block from input to input.
-pub(crate) fn gather(src: &[i16], s: &mut [i16; 1024], n: usize, p: usize, l: usize, j0: usize)
-    requires { Source src.now s.old n p l j0 }
-    ensures { Rows s.new p n (input src.now l j0) }
+// The lines j0 .. j0 + 15 of N inputs each, 1024/N places of the block from input to input.
+pub(crate) fn gather<const N: usize>(src: &[i16], s: &mut [i16; 1024], l: usize, j0: usize)
+    requires { Source src.now s.old N (1024 / N) l j0 }
+    ensures { Rows s.new (1024 / N) N (input src.now l j0) }
 {
-    for k in 0..n {
+    let p = 1024 / N;
+    for k in 0..N {
         copy_row(src, s, k * l + j0, k * p);
     }
 }

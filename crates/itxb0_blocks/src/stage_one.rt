@@ -8,48 +8,22 @@ ghost use Rattle.evc.specs.Stages.{stage_one_at};
 ghost use Rattle.itx_halving.specs.Lines.{StageRoom};
 ghost use Rattle.itx_halving.specs.Taken.{takes_one, done_one};
 ghost use Rattle.itx_halving.specs.Blocks.{BlockRoom, Blocked};
+ghost use Rattle.itx_lanes.specs.Lanes.{AnySize};
 
 use super::gather::gather;
 use super::store::store_line;
 
-// Lines j0 .. j0 + 15 of l, of each size: gathered, summed, and stored line after line. The sizes are literals, so that a compiler unrolls each by
-// itself.
-fn one16(src: &[i16], dst: &mut [i32], l: usize, j0: usize)
-    requires { BlockRoom src.now dst.old 16 l j0 }
-    ensures { Blocked (stage_one_at (tm 16) 16 l src.now) dst.old dst.new 16 j0 }
+// Lines j0 .. j0 + 15 of l, of size N: gathered, summed, and stored line after line. P is N·16, the places that the sums take.
+fn one<const N: usize, const P: usize>(src: &[i16], dst: &mut [i32], l: usize, j0: usize)
+    requires { ((P ≡ N * 16) × AnySize P) × BlockRoom src.now dst.old N l j0 }
+    ensures { Blocked (stage_one_at (tm N) N l src.now) dst.old dst.new N j0 }
 {
     let mut s = [0i16; 1024];
-    gather(src, &mut s, 16, 64, l, j0);
-    let mut e = [0i32; 256];
-    itx_lanes::sums16(&s, &mut e);
+    gather::<N>(src, &mut s, l, j0);
+    let mut e = [0i32; P];
+    itx_lanes::sums(&s, &mut e);
     for j in 0..16 {
-        store_line(&e, dst, 16, (j0 + j) * 16, j);
-    }
-}
-
-fn one32(src: &[i16], dst: &mut [i32], l: usize, j0: usize)
-    requires { BlockRoom src.now dst.old 32 l j0 }
-    ensures { Blocked (stage_one_at (tm 32) 32 l src.now) dst.old dst.new 32 j0 }
-{
-    let mut s = [0i16; 1024];
-    gather(src, &mut s, 32, 32, l, j0);
-    let mut e = [0i32; 512];
-    itx_lanes::sums32(&s, &mut e);
-    for j in 0..16 {
-        store_line(&e, dst, 32, (j0 + j) * 32, j);
-    }
-}
-
-fn one64(src: &[i16], dst: &mut [i32], l: usize, j0: usize)
-    requires { BlockRoom src.now dst.old 64 l j0 }
-    ensures { Blocked (stage_one_at (tm 64) 64 l src.now) dst.old dst.new 64 j0 }
-{
-    let mut s = [0i16; 1024];
-    gather(src, &mut s, 64, 16, l, j0);
-    let mut e = [0i32; 1024];
-    itx_lanes::sums64(&s, &mut e);
-    for j in 0..16 {
-        store_line(&e, dst, 64, (j0 + j) * 64, j);
+        store_line::<N>(&e, dst, (j0 + j) * N, j);
     }
 }
 
@@ -62,9 +36,9 @@ fn ones(src: &[i16], dst: &mut [i32], log: usize, l: usize)
     for i in 0..b {
         let j0 = i * 16;
         match log {
-            4 => one16(src, dst, l, j0),
-            5 => one32(src, dst, l, j0),
-            _ => one64(src, dst, l, j0),
+            4 => one::<16, 256>(src, dst, l, j0),
+            5 => one::<32, 512>(src, dst, l, j0),
+            _ => one::<64, 1024>(src, dst, l, j0),
         }
     }
 }

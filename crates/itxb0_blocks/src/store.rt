@@ -3,12 +3,12 @@ ghost use Rattle.std.specs.Prelude.{◌+◌, ◌*◌, ◌<◌, ◌≤◌, length
 ghost use Rattle.integers.specs.Z.{clip32};
 ghost use Rattle.itx_halving.specs.Lines.{Next};
 
-// The line of lane j, of n places, to place `a` of the output.
-pub(crate) fn store_line(e: &[i32], dst: &mut [i32], n: usize, a: usize, j: usize)
-    requires { ((16 ≤ n) × (n * 16 ≤ length e.now)) × ((j < 16) × (a + n ≤ length dst.old)) }
-    ensures { Next dst.old dst.new a n (λ k. clip32 (get_or e.now (k * 16 + j) (pos 0))) }
+// The line of lane j, of N places, to place `a` of the output.
+pub(crate) fn store_line<const N: usize>(e: &[i32], dst: &mut [i32], a: usize, j: usize)
+    requires { ((16 ≤ N) × (N * 16 ≤ length e.now)) × ((j < 16) × (a + N ≤ length dst.old)) }
+    ensures { Next dst.old dst.new a N (λ k. clip32 (get_or e.now (k * 16 + j) (pos 0))) }
 {
-    for k in 0..n {
+    for k in 0..N {
         dst[a + k] = integers::clip32(e[k * 16 + j] as i64);
     }
 }

@@ -1,5 +1,5 @@
 -- `itxb0_blocks::gather::copy_row` meets its contract: place after place. Assumes nothing.
-use Prim.Native.Nat.{◌+◌, ◌-◌, ◌≤◌}
+use Prim.Native.Nat.{◌+◌, ◌≤◌}
 use lib.ListN.{get_or}
 use lib.IntN.{pos}
 use Rattle.itx_halving.specs.Blocks.{Run}
@@ -7,6 +7,3 @@ use Rattle.itxb0_blocks.proofs.gather.copy_row.Given as goal
 
 abbrev pub invariant-loop-j : goal.invariant-loop-j
 invariant-loop-j l = (l.j ≤ 16) × Run l.initial.s l.s l.to l.j (λ i. get_or l.src (l.from + i) (pos 0))
-
-abbrev pub decreases-loop-j : goal.decreases-loop-j
-decreases-loop-j l = 16 - l.j

@@ -1,5 +1,6 @@
 -- `itxb0_blocks::stage_one::ones` meets its contract: block after block, of the size that the log says. Assumes nothing.
-use mathlib.Core.Path.{◌≡◌, sym, subst}
+use Rattle.std.proofs.Common.{inl, inr}
+use mathlib.Core.Path.{◌≡◌, refl, sym, subst}
 use mathlib.Core.List.{List}
 use Prim.Native.Nat.{ℕ, ◌*◌, ◌^◌}
 use native.Mathlib.Omega.{arith}
@@ -34,23 +35,15 @@ module _ (c : In-loop-i) where
       subst (λ (g : ℕ). Blocked (sums g) c.loop-i.dst d' (2 ^ g) (c.loop-i.i * 16)) (sym e)
       (subst (λ (d : List ℤ). Blocked (sums k) c.loop-i.dst d (2 ^ k) (c.loop-i.i * 16)) (sym f) r)
 
-pub overflow_mul-j0 : goal.overflow_mul-j0
-overflow_mul-j0 c = omega (arith, block-word c.args.l c.loop-i.i c.loop-i-test.true)
+pub one-requires : goal.one-requires
+one-requires c = ((refl, inl refl), room (goal.at.one-requires c).In-loop-i 4 c.in-4.is)
 
-pub one16-requires : goal.one16-requires
-one16-requires c = room (goal.at.one16-requires c).In-loop-i 4 c.in-4.is
+pub one-requires-in-5 : goal.one-requires-in-5
+one-requires-in-5 c = ((refl, inr (inl refl)), room (goal.at.one-requires-in-5 c).In-loop-i 5 c.in-5.is)
 
-pub one32-requires : goal.one32-requires
-one32-requires c = room (goal.at.one32-requires c).In-loop-i 5 c.in-5.is
-
-pub one64-requires : goal.one64-requires
-one64-requires c = let p = c.requires.0 in room (goal.at.one64-requires c).In-loop-i 6 (omega (arith, p.0, p.1))
-
-pub overflow_step-i : goal.overflow_step-i
-overflow_step-i c = omega (arith, c.loop-i-test.true)
-
-pub loop-i-smaller : goal.loop-i-smaller
-loop-i-smaller c = omega (arith, c.loop-i-test.true)
+pub one-requires-in_default : goal.one-requires-in_default
+one-requires-in_default c =
+    let p = c.requires.0 in ((refl, inr (inr refl)), room (goal.at.one-requires-in_default c).In-loop-i 6 (omega (arith, p.0, p.1)))
 
 pub loop-i-preserved : goal.loop-i-preserved
 loop-i-preserved c =
@@ -58,13 +51,10 @@ loop-i-preserved c =
     let i = (goal.at.loop-i-preserved c).In-loop-i in
     blocks_more c.loop-i.invariant c.loop-i-test.true
     (elim c.match-log.branch [
-      | in-4 w ↦ arm i 4 w.in-4.is w.one16.ensures w.dst-is
-      | in-5 w ↦ arm i 5 w.in-5.is w.one32.ensures w.dst-is
-      | in_default w ↦ arm i 6 (omega (arith, p.0, p.1)) w.one64.ensures w.dst-is
+      | in-4 w ↦ arm i 4 w.in-4.is w.one.ensures w.dst-is
+      | in-5 w ↦ arm i 5 w.in-5.is w.one-in-5.ensures w.dst-is
+      | in_default w ↦ arm i 6 (omega (arith, p.0, p.1)) w.one-in_default.ensures w.dst-is
     ])
-
-pub shape_of-dst : goal.shape_of-dst
-shape_of-dst c = c.loop-i.invariant.stored.long
 
 pub returns : goal.returns
 returns c = blocks-all c.loop-i.invariant c.loop-i-test.false

@@ -1,5 +1,5 @@
 -- `itxb0_blocks::store::store_line` meets its contract: place after place. Assumes nothing.
-use Prim.Native.Nat.{◌+◌, ◌*◌, ◌-◌, ◌≤◌}
+use Prim.Native.Nat.{◌+◌, ◌*◌, ◌≤◌}
 use lib.ListN.{get_or}
 use lib.IntN.{pos}
 use Rattle.integers.specs.Z.{clip32}
@@ -7,7 +7,4 @@ use Rattle.itx_halving.specs.Lines.{Next}
 use Rattle.itxb0_blocks.proofs.store.store_line.Given as goal
 
 abbrev pub invariant-loop-k : goal.invariant-loop-k
-invariant-loop-k l = (l.k ≤ l.n) × Next l.initial.dst l.dst l.a l.k (λ i. clip32 (get_or l.e (i * 16 + l.j) (pos 0)))
-
-abbrev pub decreases-loop-k : goal.decreases-loop-k
-decreases-loop-k l = l.n - l.k
+invariant-loop-k g l = (l.k ≤ g.row.N) × Next l.initial.dst l.dst l.a l.k (λ i. clip32 (get_or l.e (i * 16 + l.j) (pos 0)))
