@@ -1,8 +1,10 @@
 -- `itxb1_blocks::stage_two::itxb1` meets its contract: by blocks where the guard holds. Assumes nothing.
-use mathlib.Core.Path.{◌≡◌, sym, ◌∙◌}
+use Rattle.std.proofs.Common.{inl, inr}
+use mathlib.Core.Path.{◌≡◌, refl, sym, ◌∙◌}
 use mathlib.Core.Bool.{true}
 use Prim.Native.Nat.{ℕ, ◌*◌, ◌^◌, ◌%◌}
 use native.Mathlib.Omega.{arith}
+use lib.Dec.{lit<}
 use lib.ListN.{length}
 use lib.IntN.{ℤ}
 use Rattle.evc.specs.Table.{tm}
@@ -34,22 +36,27 @@ module _ (c : Then-takes) where
 pub overflow_shl-l : goal.overflow_shl-l
 overflow_shl-l c = omega (arith, (known c).line-most)
 
-pub twos32-requires : goal.twos32-requires
-twos32-requires c = let w = known (goal.at.twos32-requires c).Then-takes in (w.shift-most, (sized-rooms _ 5 c.if-log2_size-eq5.true (call-rooms w), blocks w))
+pub twos-requires : goal.twos-requires
+twos-requires c =
+    let w = known (goal.at.twos-requires c).Then-takes in
+    (lit< tt, ((refl, inr (inl refl)), (c.columns32.ensures, (w.shift-most, (sized-rooms _ 5 c.if-log2_size-eq5.true (call-rooms w), blocks w)))))
 
-pub all64-requires : goal.all64-requires
-all64-requires c = let w = known (goal.at.all64-requires c).Then-takes in (w.shift-most, (sized-rooms _ 6 (omega (arith, w.size-least, w.size-most, c.if-log2_size-eq5.false)) (call-rooms w), blocks w))
+pub twos-requires-else-log2_size-eq5 : goal.twos-requires-else-log2_size-eq5
+twos-requires-else-log2_size-eq5 c =
+    let w = known (goal.at.twos-requires-else-log2_size-eq5 c).Then-takes in
+    let six = sized-rooms _ 6 (omega (arith, w.size-least, w.size-most, c.if-log2_size-eq5.false)) (call-rooms w) in
+    (lit< tt, ((refl, inr (inr refl)), (c.columns64.ensures, (w.shift-most, (six, blocks w)))))
 
 pub returns-then-log2_size-eq5 : goal.returns-then-log2_size-eq5
 returns-then-log2_size-eq5 c =
     let both = two-did 5 6 4 c.args.log2_size c.args.log2_line c.args.src.now c.args.dst.now c.args.shift (guard (goal.at.returns-then-log2_size-eq5 c).Then-takes)
-    (sized-end (left (goal.at.returns-then-log2_size-eq5 c).Then-takes) c.args.dst.now (l (goal.at.returns-then-log2_size-eq5 c).Then-takes) c.args.log2_size 5 c.if-log2_size-eq5.true c.twos32.ensures) in record { did = both.0; exit = both.1 }
+    (sized-end (left (goal.at.returns-then-log2_size-eq5 c).Then-takes) c.args.dst.now (l (goal.at.returns-then-log2_size-eq5 c).Then-takes) c.args.log2_size 5 c.if-log2_size-eq5.true c.twos.ensures) in record { did = both.0; exit = both.1 }
 
 pub returns-else-log2_size-eq5 : goal.returns-else-log2_size-eq5
 returns-else-log2_size-eq5 c =
     let w = known (goal.at.returns-else-log2_size-eq5 c).Then-takes in
     let both = two-did 5 6 4 c.args.log2_size c.args.log2_line c.args.src.now c.args.dst.now c.args.shift (guard (goal.at.returns-else-log2_size-eq5 c).Then-takes)
-    (sized-end (left (goal.at.returns-else-log2_size-eq5 c).Then-takes) c.args.dst.now (l (goal.at.returns-else-log2_size-eq5 c).Then-takes) c.args.log2_size 6 (omega (arith, w.size-least, w.size-most, c.if-log2_size-eq5.false)) c.all64.ensures) in record { did = both.0; exit = both.1 }
+    (sized-end (left (goal.at.returns-else-log2_size-eq5 c).Then-takes) c.args.dst.now (l (goal.at.returns-else-log2_size-eq5 c).Then-takes) c.args.log2_size 6 (omega (arith, w.size-least, w.size-most, c.if-log2_size-eq5.false)) c.twos-else-log2_size-eq5.ensures) in record { did = both.0; exit = both.1 }
 
 pub returns : goal.returns
 returns c =

@@ -1,4 +1,4 @@
--- `itxb1_blocks::halves::low` meets its contract: each number on the way fits, by the laws of the halves. Assumes nothing.
+-- `itxb1_blocks::halves::RestHalf::of` meets its contract: each number on the way fits, by the laws of the halves. Assumes nothing.
 use mathlib.Core.Path.{◌≡◌, sym, ap, ap₂, ◌∙◌, subst}
 use lib.IntN.{ℤ, pos, ◌-ℤ◌, ◌*ℤ◌}
 use lib.Signed.{shr_z}
@@ -8,8 +8,8 @@ use mir.Facts.{to_z-of_z}
 use Rattle.integers.proofs.Bound.{within-sfits, sfits-within}
 use Rattle.itxb1_blocks.specs.Halves.{upper, rest}
 use Rattle.itxb1_blocks.proofs.Parts.{upper_fits, scaled_fits, residue-fits, rest-fits, shifted}
-use Rattle.itxb1_blocks.proofs.halves.low.Goals.{Start}
-use Rattle.itxb1_blocks.proofs.halves.low.Goals as goal
+use Rattle.itxb1_blocks.proofs.halves.RestHalf.of.Goals.{Start}
+use Rattle.itxb1_blocks.proofs.halves.RestHalf.of.Goals as goal
 
 module _ (c : Start) where
   abbrev x : ℤ
