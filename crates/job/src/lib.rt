@@ -7,20 +7,15 @@ ghost use Rattle.std.specs.Prelude.{◌≡◌, length};
 ghost use Rattle.evc.specs.Answers.{answer_number};
 ghost use Rattle.evc.specs.Jobs.{job_number, job_exit};
 
-use evc::{Answer, Job, Verdict};
+use evc::{Job, Refusal};
 
-pub fn evc_itdq_job(coef: &mut [i16], job: Job) -> Answer
+pub fn evc_itdq_job(coef: &mut [i16], job: Job) -> Result<(), Refusal>
     ensures answer { answer_number result ≡ job_number (length coef.old) job }
     ensures exit { coef.new ≡ job_exit job coef.old }
 {
-    if let Verdict::Broken(r) = job_tests::of_job(coef.len(), job) {
-        return Answer::Refused(r);
-    }
-    let by = scaling::scale_of(job.qp);
+    job_tests::of_job(coef.len(), job)?;
     let start = job.start;
     let end = start + (1usize << (job.log2_w + job.log2_h));
-    let part = &mut coef[start..end];
-    dquant::evc_dquant(part, job.log2_w, job.log2_h, by, job.offset, job.dq_shift);
-    itx::both_stages(part, job.log2_w, job.log2_h, job.it_shift);
-    Answer::Done
+    job_area::itdq(&mut coef[start..end], job);
+    Ok(())
 }

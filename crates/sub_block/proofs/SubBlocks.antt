@@ -1,43 +1,58 @@
 -- What an accepted sub-block call leaves. Assumes nothing.
-use mathlib.Core.Path.{◌≡◌, refl, sym, ◌∙◌}
-use mathlib.Core.Bool.{Bool, true}
+use mathlib.Core.Path.{◌≡◌, refl, sym, ap, ◌∙◌}
 use mathlib.Core.List.{List, [], ◌∷◌, ◌++◌}
 use Prim.Native.Nat.{ℕ}
 use lib.ListN.{length}
 use lib.IntN.{ℤ}
+use Rattle.std.specs.Prelude.{Option, Some, None, MatchOption, IfSome, IsSomeAnd, option_map}
 use Rattle.order.specs.Jobs.{Kind, after, jobs}
 use Rattle.evc.specs.declared.Job.{Job}
 use Rattle.evc.specs.declared.Part.{Part}
 use Rattle.evc.specs.declared.SubBlock.{SubBlock}
-use Rattle.evc.specs.Tests.{first}
 use Rattle.evc.specs.Answers.{accepted}
 use Rattle.evc.specs.Jobs.{job_number, block_jobs, job_exit}
-use Rattle.evc.specs.SubBlocks.{luma, chroma, chroma_tests, given, sub_reply, sub_exit}
-use Rattle.evc.proofs.SubBlocks.{chroma-accepted}
+use Rattle.evc.specs.SubBlocks.{luma, chroma, given, sub_reply, sub_exit}
 
 -- one list of jobs after another
 jobs-append : {A J : Type 0} (w : Kind A J) (js ks : List J) (b : List A) → jobs w (js ++ ks) b ≡ jobs w ks (jobs w js b)
 jobs-append w [] ks b = refl
 jobs-append w (j ∷ js) ks b = jobs-append w js ks (after w j b)
 
--- a flagged chroma component that has passed its tests is an accepted job, while the buffer keeps its length
-pub chroma-passed : (s : SubBlock) (c : Part) {n m : ℕ} {j : Job} → (c.flag ≡ true → first (chroma_tests n s c) ≡ 0) → j ≡ chroma s c → m ≡ n → c.flag ≡ true
-    → job_number m j ≡ 0
-chroma-passed s c h ej em t = rw (ej, em) (chroma-accepted _ s c (h t))
+module _ (f : Part → Job) where
+  -- q is what `map` makes of a component by a closure that gives what P says: the component's job
+  pub mapped : {P : Part → Job → Type 0} (o : Option Part) (q : Option Job) → ((c : Part) (j : Job) → P c j → j ≡ f c)
+      → MatchOption o (q ≡ None) (λ c. IsSomeAnd q (P c)) → q ≡ option_map f o
+  mapped None q g m = m
+  mapped (Some c) None g m = absurd m
+  mapped (Some c) (Some j) g m = ap Some (g c j m)
 
--- a flagged component leaves what its job leaves
-pub flagged-job : (t : Bool) (j : Job) (b : List ℤ) → t ≡ true → job_exit j b ≡ jobs block_jobs (given t (j ∷ [])) b
-unfolding job_exit
-flagged-job t j b e = rw e
+  -- a component that has passed its tests is an accepted job, while the buffer keeps its length
+  pub job-passed : (o : Option Part) {q : Option Job} {n m : ℕ} → ((c : Part) → o ≡ Some c → job_number n (f c) ≡ 0) → q ≡ option_map f o → m ≡ n
+      → IfSome q (λ j. job_number m j ≡ 0)
+  job-passed None h q e = rw q tt
+  job-passed (Some c) h q e = rw (q, e) (h c refl)
+
+  -- and leaves what its job leaves
+  job-left : (o : Option Part) {q : Option Job} (b p : List ℤ) → q ≡ option_map f o → MatchOption q (p ≡ b) (λ j. p ≡ job_exit j b)
+      → p ≡ jobs block_jobs (given o (λ c. f c ∷ [])) b
+  unfolding job_exit
+  job-left None b p q m = rw q at m
+  job-left (Some c) b p q m = rw q at m
 
 -- what the three components leave, one after the other
-pub sub-left : (s : SubBlock) (b p q r : List ℤ) {y u v : Job} → sub_reply (length b) s ≡ accepted
-    → y ≡ luma s s.y → u ≡ chroma s s.u → v ≡ chroma s s.v
-    → p ≡ jobs block_jobs (given s.y.flag (y ∷ [])) b
-    → q ≡ jobs block_jobs (given s.u.flag (u ∷ [])) p
-    → r ≡ jobs block_jobs (given s.v.flag (v ∷ [])) q
+pub sub-left : (s : SubBlock) (b p q r : List ℤ) {y u v : Option Job} → sub_reply (length b) s ≡ accepted
+    → y ≡ option_map (luma s) s.y → u ≡ option_map (chroma s) s.u → v ≡ option_map (chroma s) s.v
+    → MatchOption y (p ≡ b) (λ j. p ≡ job_exit j b)
+    → MatchOption u (q ≡ p) (λ j. q ≡ job_exit j p)
+    → MatchOption v (r ≡ q) (λ j. r ≡ job_exit j q)
     → r ≡ sub_exit s b
 unfolding sub_exit
 sub-left s b p q r a ey eu ev ep eq er =
-    er ∙ rw (a, ev, eq, eu, ep, ey)
-    (sym (jobs-append block_jobs (given s.y.flag (luma s s.y ∷ [])) _ b ∙ jobs-append block_jobs (given s.u.flag (chroma s s.u ∷ [])) _ _))
+    let jy = given s.y (λ c. luma s c ∷ []) in
+    let ju = given s.u (λ c. chroma s c ∷ []) in
+    let jv = given s.v (λ c. chroma s c ∷ []) in
+    let hp = job-left (luma s) s.y b p ey ep in
+    let hq = job-left (chroma s) s.u p q eu eq in
+    let hr = job-left (chroma s) s.v q r ev er in
+    rw a (hr ∙ ap (jobs block_jobs jv) (hq ∙ ap (jobs block_jobs ju) hp)
+    ∙ sym (jobs-append block_jobs jy (ju ++ jv) b ∙ jobs-append block_jobs ju jv (jobs block_jobs jy b)))

@@ -4,43 +4,46 @@
 // written nothing; a flagged component is a block job, not a call on the buffer's tail; offset and shifts are given, and shared.
 #![tactic(auto)]
 
-ghost use Rattle.std.specs.Prelude.{◌≡◌, true, [], ◌∷◌, length};
-ghost use Rattle.order.specs.Jobs.{jobs};
-ghost use Rattle.evc.specs.Answers.{sub_reading};
-ghost use Rattle.evc.specs.Jobs.{job_number, block_jobs};
-ghost use Rattle.evc.specs.SubBlocks.{given, sub_reply, sub_exit};
+ghost use Rattle.std.specs.Prelude.{◌≡◌, length, IfSome, MatchOption};
+ghost use Rattle.evc.specs.Answers.{accepted, sub_reading};
+ghost use Rattle.evc.specs.Jobs.{job_number, job_exit};
+ghost use Rattle.evc.specs.SubBlocks.{sub_reply, sub_exit};
 
-use evc::{Job, SubAnswer, SubBlock, SubVerdict};
+use evc::{Job, SubBlock, SubRefusal};
 use job_tests::{chroma_job, luma_job};
 
 mod reported;
 
 pub use reported::{evc_itdq_job_reported, evc_sub_block_itdq2_reported};
 
-// A component's job, where it is flagged. Its tests have passed, so that they are not made again: the steps are those of `evc_itdq_job`.
-pub(crate) fn component(coef: &mut [i16], flag: bool, job: Job)
-    requires { flag ≡ true → job_number (length coef.old) job ≡ 0 }
-    ensures { coef.new ≡ jobs block_jobs (given flag (job ∷ [])) coef.old }
+// A component's job, where it is flagged. Its tests have passed, so that they are not made again, as `evc_itdq_job` would.
+pub(crate) fn component(coef: &mut [i16], job: Option<Job>)
+    requires { IfSome job (λ j. job_number (length coef.old) j ≡ 0) }
+    ensures { MatchOption job (coef.new ≡ coef.old) (λ j. coef.new ≡ job_exit j coef.old) }
 {
-    if flag {
-        let by = scaling::scale_of(job.qp);
+    if let Some(job) = job {
         let start = job.start;
         let end = start + (1usize << (job.log2_w + job.log2_h));
-        let part = &mut coef[start..end];
-        dquant::evc_dquant(part, job.log2_w, job.log2_h, by, job.offset, job.dq_shift);
-        itx::both_stages(part, job.log2_w, job.log2_h, job.it_shift);
+        job_area::itdq(&mut coef[start..end], job);
     }
 }
 
-pub fn evc_sub_block_itdq2(coef: &mut [i16], call: SubBlock) -> SubAnswer
+// The jobs of an accepted call's components, one after the other.
+#[inline(always)]
+pub(crate) fn components(coef: &mut [i16], call: SubBlock)
+    requires { sub_reply (length coef.old) call ≡ accepted }
+    ensures { coef.new ≡ sub_exit call coef.old }
+{
+    component(&mut coef[..], call.y.map(|part| luma_job(call, part)));
+    component(&mut coef[..], call.u.map(|part| chroma_job(call, part)));
+    component(&mut coef[..], call.v.map(|part| chroma_job(call, part)));
+}
+
+pub fn evc_sub_block_itdq2(coef: &mut [i16], call: SubBlock) -> Result<(), SubRefusal>
     ensures answer { sub_reading result ≡ sub_reply (length coef.old) call }
     ensures exit { coef.new ≡ sub_exit call coef.old }
 {
-    if let SubVerdict::Broken(c, r) = job_tests::of_sub_block(coef.len(), call) {
-        return SubAnswer::Refused(c, r);
-    }
-    component(&mut coef[..], call.y.flag, luma_job(call, call.y));
-    component(&mut coef[..], call.u.flag, chroma_job(call, call.u));
-    component(&mut coef[..], call.v.flag, chroma_job(call, call.v));
-    SubAnswer::Done
+    job_tests::of_sub_block(coef.len(), call)?;
+    components(&mut coef[..], call);
+    Ok(())
 }

@@ -1,51 +1,7 @@
 -- `sub_block::evc_sub_block_itdq2` meets its contract. Assumes nothing.
-use mathlib.Core.Path.{◌≡◌, sym, ap, ◌∙◌}
-use lib.ListN.{length}
-use Rattle.evc.specs.declared.SubBlock.{SubBlock}
-use Rattle.evc.specs.Answers.{accepted, sub_verdict_reading}
-use Rattle.evc.specs.SubBlocks.{sub_reply}
-use Rattle.evc.proofs.SubBlocks.{AllPassed, all-passed, luma-accepted, sub-refused}
-use Rattle.sub_block.proofs.SubBlocks.{chroma-passed, sub-left}
-use Rattle.sub_block.proofs.evc_sub_block_itdq2.Goals.{In_default}
+use mathlib.Core.Path.{sym}
+use Rattle.evc.proofs.SubBlocks.{sub-refused}
 use Rattle.sub_block.proofs.evc_sub_block_itdq2.Goals as goal
 
-pub returns-in-Broken : goal.returns-in-Broken
-returns-in-Broken c =
-    let e = sym (ap sub_verdict_reading c.in-Broken.is) ∙ c.of_sub_block.ensures in
-    record { answer = e; exit = sym (sub-refused c.args.call c.args.coef.now _ _ (sym e)) }
-
--- ---- where the call is accepted
-module _ (c : In_default) where
-  abbrev call : SubBlock
-  call = c.args.call
-
-  is-accepted : sub_reply (length c.args.coef.now) call ≡ accepted
-  is-accepted = sym c.of_sub_block.ensures ∙ ap sub_verdict_reading c.in_default.is
-
-  passed : AllPassed (length c.args.coef.now) call
-  passed = all-passed _ _ is-accepted
-
-pub component-requires : goal.component-requires
-component-requires c t =
-    let k = (goal.at.component-requires c).In_default in
-    rw c.luma_job.ensures (luma-accepted _ c.args.call c.args.call.y ((passed k).y t))
-
-pub component-requires-2 : goal.component-requires-2
-component-requires-2 c t =
-    let k = (goal.at.component-requires-2 c).In_default in
-    search (chroma-passed c.args.call c.args.call.u (passed k).u c.chroma_job.ensures c.component.auto.coef)
-
-pub component-requires-3 : goal.component-requires-3
-component-requires-3 c t =
-    let k = (goal.at.component-requires-3 c).In_default in
-    search (chroma-passed c.args.call c.args.call.v (passed k).v c.chroma_job-2.ensures (c.component-2.auto.coef ∙ c.component.auto.coef))
-
-pub returns : goal.returns
-returns c =
-    let k = (goal.at.returns c).In_default in
-    record {
-      answer = sym (is-accepted k);
-      exit = sub-left (call k) c.args.coef.now _ _ _ (is-accepted k)
-          c.luma_job.ensures c.chroma_job.ensures c.chroma_job-2.ensures
-          c.component.ensures c.component-2.ensures c.component-3.ensures;
-    }
+pub returns-in_err-of_sub_block-clause-exit : goal.returns-in_err-of_sub_block-clause-exit
+returns-in_err-of_sub_block-clause-exit c = sym (sub-refused c.args.call c.args.coef.now _ _ (sym c.in_err-of_sub_block.ensures))
