@@ -1,121 +1,109 @@
 // What a call answers, and how it is written: document 01's number and name, the value or the reason, and the contents of a buffer.
-use crate::out::{Room, signed, words};
-use crate::read::NONE;
-use crate::report;
-use crate::report::Reason;
-use evc::{Answer, Distortion, Report, Scale, SquaredDistortion, SubAnswer};
+use crate::out::Room;
+use crate::report::Broken;
+use evc::{Component, Refusal, SubRefusal};
+use std::io::Write;
+use std::{fmt, io};
 
-// The number; the tags of the words for it and for the component that it names, if it names one; the value of a call that has one; and
-// the reason where one is reported.
+// Why a call is refused: a call on a sub-block names the component, and one that is reported says more.
 #[derive(Clone, Copy)]
-pub(crate) struct Reply {
-    pub(crate) number: u8,
-    pub(crate) tag: u8,
-    pub(crate) component: u8,
-    pub(crate) value: i64,
-    pub(crate) reason: Reason,
+pub(crate) enum Refused {
+    Call(Refusal),
+    SubBlock(SubRefusal),
+    Reported(Broken),
 }
 
-const VALUE: u8 = b'v';
+// The value of a call that has one, or why it is refused.
+pub(crate) type Answer = Result<Option<i64>, Refused>;
 
-fn numbered(number: u8, component: u8, reason: Reason) -> Reply {
-    Reply {
-        number,
-        tag: std::num::wrapping_add_u8(b'0', number),
-        component,
-        value: 0,
-        reason,
+impl From<Refusal> for Refused {
+    fn from(r: Refusal) -> Refused {
+        Refused::Call(r)
     }
 }
 
-fn value(v: i64) -> Reply {
-    Reply {
-        number: 0,
-        tag: VALUE,
-        component: NONE,
-        value: v,
-        reason: report::none(),
+impl From<SubRefusal> for Refused {
+    fn from(r: SubRefusal) -> Refused {
+        Refused::SubBlock(r)
     }
 }
 
-pub(crate) fn call(a: Answer) -> Reply {
-    numbered(boundary::answer_number(a), NONE, report::none())
+impl Refused {
+    pub(crate) fn refusal(&self) -> Refusal {
+        match self {
+            Refused::Call(r) => *r,
+            Refused::SubBlock(r) => r.refusal,
+            Refused::Reported(r) => r.report.refusal,
+        }
+    }
 }
 
-fn wide_16(v: i16) -> i64 {
-    v as i64
-}
-
-pub(crate) fn wide_32(v: i32) -> i64 {
-    v as i64
-}
-
-pub(crate) fn scale(a: Scale) -> Reply {
+// A call that leaves its result in a buffer.
+pub(crate) fn done<E: Into<Refused>>(a: Result<(), E>) -> Answer {
     match a {
-        Scale::Value(v) => value(wide_32(v)),
-        Scale::Refused(r) => call(Answer::Refused(r)),
+        Ok(()) => Ok(None),
+        Err(e) => Err(e.into()),
     }
 }
 
-pub(crate) fn distortion(a: Distortion) -> Reply {
+pub(crate) fn value<T: Into<i64>>(a: Result<T, Refusal>) -> Answer {
     match a {
-        Distortion::Value(v) => value(v as i64),
-        Distortion::Refused(r) => call(Answer::Refused(r)),
+        Ok(v) => Ok(Some(v.into())),
+        Err(r) => Err(Refused::Call(r)),
     }
 }
 
-pub(crate) fn squared(a: SquaredDistortion) -> Reply {
+fn name(r: Refusal) -> &'static str {
+    match r {
+        Refusal::Size => "SIZE",
+        Refusal::Qp => "QP",
+        Refusal::Shift => "SHIFT",
+        Refusal::Depth => "DEPTH",
+        Refusal::Area => "AREA",
+        Refusal::Overlap => "OVERLAP",
+        Refusal::Sample => "SAMPLE",
+    }
+}
+
+pub(crate) fn letter(c: Component) -> &'static str {
+    match c {
+        Component::Y => "Y",
+        Component::U => "U",
+        Component::V => "V",
+    }
+}
+
+impl fmt::Display for Refused {
+    fn fmt<W: fmt::Write>(&self, f: &mut fmt::Formatter<W>) -> fmt::Result {
+        let refusal = self.refusal();
+        let number = u8::from(refusal);
+        let name = name(refusal);
+        write!(f, "{number} {name}")?;
+        match self {
+            Refused::Call(_) => Ok(()),
+            Refused::SubBlock(r) => {
+                let who = letter(r.component);
+                write!(f, " {who}")
+            }
+            Refused::Reported(r) => write!(f, "{r}"),
+        }
+    }
+}
+
+pub(crate) fn write(o: &mut Room, a: &Answer) -> io::Result<()> {
     match a {
-        SquaredDistortion::Value(v) => value(v),
-        SquaredDistortion::Refused(r) => call(Answer::Refused(r)),
+        Ok(None) => o.write_all(b"0 done"),
+        Ok(Some(v)) => write!(o, "0 value {v}"),
+        Err(r) => write!(o, "{r}"),
     }
-}
-
-// A refusal names its component: the letters from A on stand for it among the words. Where nothing is refused it stays what makes a blank of an A.
-pub(crate) fn sub_block(a: SubAnswer) -> Reply {
-    let mut component = std::num::wrapping_sub_u8(NONE, b'A');
-    let number = boundary::tell_sub_block(a, &mut component);
-    let named = std::num::wrapping_add_u8(b'A', component);
-    numbered(number, named, report::none())
-}
-
-// A job or a sub-block that is reported: the reason names the component.
-pub(crate) fn reported(r: Report, log2_w: usize, dq_shift: usize) -> Reply {
-    let t = boundary::tell_report(r);
-    numbered(t.answer, NONE, report::of(t, log2_w, dq_shift))
-}
-
-pub(crate) fn write(o: &mut Room, at: usize, r: Reply) -> usize {
-    let mut next = words(o, at, r.tag);
-    if r.component != NONE {
-        next = words(o, next, r.component);
-    }
-    if r.tag == VALUE {
-        next = signed(o, next, r.value);
-    }
-    if r.reason.what != NONE {
-        next = report::write(o, next, r.reason);
-    }
-    next
 }
 
 // The final contents of a buffer that a call may write.
-pub(crate) fn shorts(o: &mut Room, at: usize, s: &[i16]) -> usize {
-    let mut next = words(o, at, b'|');
-    let mut i = 0;
-    while i < s.len() {
-        next = signed(o, next, wide_16(s[i]));
-        i += 1;
+pub(crate) fn contents<T: Copy + Into<i64>>(o: &mut Room, items: &[T]) -> io::Result<()> {
+    o.write_all(b" |")?;
+    for item in items {
+        let v: i64 = (*item).into();
+        write!(o, " {v}")?;
     }
-    next
-}
-
-pub(crate) fn longs(o: &mut Room, at: usize, s: &[i32]) -> usize {
-    let mut next = words(o, at, b'|');
-    let mut i = 0;
-    while i < s.len() {
-        next = signed(o, next, wide_32(s[i]));
-        i += 1;
-    }
-    next
+    Ok(())
 }

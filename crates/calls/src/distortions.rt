@@ -1,84 +1,115 @@
 // DIFF, SATD, the SSDs and the SADs.
 use crate::answer;
-use crate::answer::{Reply, distortion, squared};
-use crate::read::Call;
-use crate::values::{byte, short};
+use crate::answer::Answer;
+use crate::buffer::Buffers;
+use crate::fault::Malformed;
+use crate::read::Reader;
 
-pub(crate) fn diff(c: Call, org: &[u16], cur: &[u16], diff: &mut [i16]) -> Reply {
-    let a = diff::evce_diff_16b(
-        org,
-        c.n0,
-        c.n1,
-        c.n2,
-        c.n3,
-        c.n4,
-        c.n5,
-        c.n6,
-        cur,
-        byte(c.n7),
-        diff,
-    );
-    answer::call(a)
+pub(crate) fn diff(r: &mut Reader, b: &mut Buffers) -> Result<Answer, Malformed> {
+    let [width, height, stride, x, y, log2_w, log2_h]: [usize; 7] = r.numbers()?;
+    let depth = r.number()?;
+    r.buffer(&mut b.one)?;
+    r.buffer(&mut b.two)?;
+    r.buffer(&mut b.shorts)?;
+    r.end()?;
+    let org = b.one.as_slice();
+    let cur = b.two.as_slice();
+    let diff = b.shorts.as_mut_slice();
+    Ok(answer::done(diff::evce_diff_16b(
+        org, width, height, stride, x, y, log2_w, log2_h, cur, depth, diff,
+    )))
 }
 
-// The calls that write nothing. Four of them have the depth at the same place.
-pub(crate) fn measure(c: Call, bi: &[i16], one: &[u16], two: &[u16]) -> Reply {
-    let tag = c.tag;
-    let depth = byte(c.n7);
-    match tag {
-        b'h' => distortion(satd::evce_satd_16b(
-            one, c.n0, c.n1, c.n2, c.n3, c.n4, c.n5, c.n6, two, depth,
-        )),
-        b'i' => squared(ssd::evce_ssd_16b(
-            one, c.n0, c.n1, c.n2, c.n3, c.n4, c.n5, c.n6, two, depth,
-        )),
-        b'j' => squared(ssd::evce_ssd_16i(
-            one,
-            c.n0,
-            c.n1,
-            c.n2,
-            two,
-            c.n3,
-            c.n4,
-            c.n5,
-            short(c.n6),
-            short(c.n7),
-            c.n8,
-            c.n9,
-            byte(c.n10),
-        )),
-        b'k' => distortion(sad::evce_sad_16b(
-            one,
-            c.n0,
-            c.n1,
-            c.n2,
-            c.n3,
-            c.n4,
-            two,
-            c.n5,
-            c.n6,
-            c.n7,
-            short(c.n8),
-            short(c.n9),
-            c.n10,
-            c.n11,
-            byte(c.n12),
-        )),
-        b'l' => distortion(sad_bi::evce_sad_bi_16b(
-            bi,
-            one,
-            c.n0,
-            c.n1,
-            c.n2,
-            short(c.n3),
-            short(c.n4),
-            c.n5,
-            c.n6,
-            depth,
-        )),
-        b'm' => distortion(sad::evce_sad_16i(
-            one, c.n0, c.n1, c.n2, c.n3, c.n4, c.n5, c.n6, two, depth,
-        )),
-        _ => distortion(sad_bi::evce_sad_bi_16i(bi, one, c.n0, c.n1, byte(c.n2))),
-    }
+pub(crate) fn satd(r: &mut Reader, b: &mut Buffers) -> Result<Answer, Malformed> {
+    let [width, height, stride, x, y, w, h]: [usize; 7] = r.numbers()?;
+    let depth = r.number()?;
+    r.buffer(&mut b.one)?;
+    r.buffer(&mut b.two)?;
+    r.end()?;
+    let org = b.one.as_slice();
+    let cur = b.two.as_slice();
+    Ok(answer::value(satd::evce_satd_16b(org, width, height, stride, x, y, w, h, cur, depth)))
+}
+
+pub(crate) fn ssd_16b(r: &mut Reader, b: &mut Buffers) -> Result<Answer, Malformed> {
+    let [width, height, stride, x, y, log2_w, log2_h]: [usize; 7] = r.numbers()?;
+    let depth = r.number()?;
+    r.buffer(&mut b.one)?;
+    r.buffer(&mut b.two)?;
+    r.end()?;
+    let org = b.one.as_slice();
+    let cur = b.two.as_slice();
+    Ok(answer::value(ssd::evce_ssd_16b(
+        org, width, height, stride, x, y, log2_w, log2_h, cur, depth,
+    )))
+}
+
+pub(crate) fn ssd_16i(r: &mut Reader, b: &mut Buffers) -> Result<Answer, Malformed> {
+    let [width1, height1, stride1]: [usize; 3] = r.numbers()?;
+    let [width2, height2, stride2]: [usize; 3] = r.numbers()?;
+    let [x, y]: [i16; 2] = r.numbers()?;
+    let [log2_w, log2_h]: [usize; 2] = r.numbers()?;
+    let depth = r.number()?;
+    r.buffer(&mut b.one)?;
+    r.buffer(&mut b.two)?;
+    r.end()?;
+    let one = b.one.as_slice();
+    let two = b.two.as_slice();
+    Ok(answer::value(ssd::evce_ssd_16i(
+        one, width1, height1, stride1, two, width2, height2, stride2, x, y, log2_w, log2_h, depth,
+    )))
+}
+
+pub(crate) fn sad_16b(r: &mut Reader, b: &mut Buffers) -> Result<Answer, Malformed> {
+    let [width, height, stride, x, y]: [usize; 5] = r.numbers()?;
+    let [ref_width, ref_height, ref_stride]: [usize; 3] = r.numbers()?;
+    let [mv_x, mv_y]: [i16; 2] = r.numbers()?;
+    let [w, h]: [usize; 2] = r.numbers()?;
+    let depth = r.number()?;
+    r.buffer(&mut b.one)?;
+    r.buffer(&mut b.two)?;
+    r.end()?;
+    let org = b.one.as_slice();
+    let reference = b.two.as_slice();
+    Ok(answer::value(sad::evce_sad_16b(
+        org, width, height, stride, x, y, reference, ref_width, ref_height, ref_stride, mv_x, mv_y,
+        w, h, depth,
+    )))
+}
+
+pub(crate) fn sad_bi_16b(r: &mut Reader, b: &mut Buffers) -> Result<Answer, Malformed> {
+    let [ref_width, ref_height, ref_stride]: [usize; 3] = r.numbers()?;
+    let [mv_x, mv_y]: [i16; 2] = r.numbers()?;
+    let [w, h]: [usize; 2] = r.numbers()?;
+    let depth = r.number()?;
+    r.buffer(&mut b.shorts)?;
+    r.buffer(&mut b.one)?;
+    r.end()?;
+    let bi = b.shorts.as_slice();
+    let reference = b.one.as_slice();
+    Ok(answer::value(sad_bi::evce_sad_bi_16b(
+        bi, reference, ref_width, ref_height, ref_stride, mv_x, mv_y, w, h, depth,
+    )))
+}
+
+pub(crate) fn sad_16i(r: &mut Reader, b: &mut Buffers) -> Result<Answer, Malformed> {
+    let [width, height, stride, x, y, w, h]: [usize; 7] = r.numbers()?;
+    let depth = r.number()?;
+    r.buffer(&mut b.one)?;
+    r.buffer(&mut b.two)?;
+    r.end()?;
+    let org = b.one.as_slice();
+    let pred = b.two.as_slice();
+    Ok(answer::value(sad::evce_sad_16i(org, width, height, stride, x, y, w, h, pred, depth)))
+}
+
+pub(crate) fn sad_bi_16i(r: &mut Reader, b: &mut Buffers) -> Result<Answer, Malformed> {
+    let [w, h]: [usize; 2] = r.numbers()?;
+    let depth = r.number()?;
+    r.buffer(&mut b.shorts)?;
+    r.buffer(&mut b.one)?;
+    r.end()?;
+    let bi = b.shorts.as_slice();
+    let pred = b.one.as_slice();
+    Ok(answer::value(sad_bi::evce_sad_bi_16i(bi, pred, w, h, depth)))
 }

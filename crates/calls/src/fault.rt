@@ -1,9 +1,88 @@
 // What is said of a line that is no call, and of an input that can't be read. It goes where the answer would stand.
-use crate::answer::wide_32;
-use crate::choice::either_byte;
-use crate::entry::{argument, form};
-use crate::out::{Room, end, number, signed, text, words};
-use crate::read::{Call, NONE};
+use crate::call::Call;
+use crate::number::Range;
+use crate::out::Room;
+use std::io::Write;
+use std::{fmt, io};
+
+// What is wrong with a number.
+#[derive(Clone, Copy)]
+pub(crate) enum Wrong {
+    Missing,
+    NotANumber,
+    OutOfRange,
+}
+
+// What is wrong with a line: it is too long, starts with a byte-order mark or names no call; or the call that it names takes no more, or takes another
+// number as the argument at a place.
+#[derive(Clone, Copy)]
+pub(crate) enum Fault {
+    Long,
+    Mark,
+    Unknown,
+    Extra(Call),
+    Number(Call, usize, Wrong, Range),
+}
+
+// A line that is no call, and how much of it is read.
+#[derive(Clone, Copy)]
+pub(crate) struct Malformed {
+    pub(crate) at: usize,
+    pub(crate) fault: Fault,
+}
+
+impl fmt::Display for Wrong {
+    fn fmt<W: fmt::Write>(&self, f: &mut fmt::Formatter<W>) -> fmt::Result {
+        f.write_str(match self {
+            Wrong::Missing => "a number is missing",
+            Wrong::NotANumber => "not a number",
+            Wrong::OutOfRange => "out of range",
+        })
+    }
+}
+
+impl fmt::Display for Fault {
+    fn fmt<W: fmt::Write>(&self, f: &mut fmt::Formatter<W>) -> fmt::Result {
+        match *self {
+            Fault::Long => {
+                f.write_str(": a line has at most 524287 bytes; this one is left out")
+            }
+            Fault::Mark => {
+                f.write_str(": the text starts with a byte-order mark; save it without one")
+            }
+            Fault::Unknown => f.write_str(": no such call; 'help' lists them"),
+            Fault::Extra(call) => {
+                f.write_str(": more than the call takes")?;
+                form(f, call)
+            }
+            Fault::Number(call, place, wrong, range) => {
+                let name = call.argument(place);
+                write!(f, " ({name}): {wrong}, {range}")?;
+                form(f, call)
+            }
+        }
+    }
+}
+
+// How the call is written.
+fn form<W: fmt::Write>(f: &mut fmt::Formatter<W>, call: Call) -> fmt::Result {
+    match call.form() {
+        Some(form) => write!(f, "; {form}"),
+        None => Ok(()),
+    }
+}
+
+impl Malformed {
+    // The input's name, if it has one; the line and the column, counted from 1, and what is wrong there.
+    pub(crate) fn tell(&self, o: &mut Room, name: &[u8], row: usize) -> io::Result<()> {
+        let line = if name.is_empty() { "line" } else { ", line" };
+        let column = self.at.wrapping_add(1);
+        let fault = self.fault;
+        o.write_all(b"error: ")?;
+        o.write_all(name)?;
+        writeln!(o, "{line} {row}, column {column}{fault}")
+    }
+}
 
 // Errors of the system that have words of their own.
 const ENOENT: i32 = 2;
@@ -12,57 +91,55 @@ const EACCES: i32 = 13;
 
 const EISDIR: i32 = 21;
 
-// A line that is no call: the input's name, if it has one; the line and the column, counted from 1, and the argument that should stand there; what is
-// wrong, and how the call is written.
-pub(crate) fn malformed(
-    o: &mut Room,
-    start: usize,
-    line: &[u8],
-    from: usize,
-    name: &[u8],
-    row: usize,
-    c: Call,
-) -> usize {
-    let mut at = words(o, start, b'e');
-    at = text(o, at, name);
-    at = words(o, at, either_byte(0 < name.len(), b',', b'i'));
-    at = number(o, at, row);
-    at = words(o, at, b'c');
-    at = number(o, at, std::num::wrapping_add_usize(c.at, 1));
-    if c.kind != NONE {
-        at = argument(o, at, line, from, c.place);
-    }
-    at = words(o, at, c.fault);
-    at = words(o, at, c.kind);
-    at = form(o, at, c.tag, line, from);
-    end(o, at)
+// Why an input can't be read: the errors of the system that have words of their own, the others, or none where it was not asked, since a name has to be text.
+#[derive(Clone, Copy)]
+pub(crate) enum Unread {
+    NoSuchFile,
+    NotAllowed,
+    Folder,
+    Other(i32),
+    NotText,
 }
 
-// An input that can't be read, and why: the system's error, or none where it was not asked, since a name has to be text.
-pub(crate) fn unread(o: &mut Room, start: usize, name: &[u8], error: Option<i32>) -> usize {
-    let mut at = words(o, start, b'u');
-    at = text(o, at, name);
-    at = words(o, at, either_byte(name.len() == 0, b'a', NONE));
-    at = reason(o, at, error);
-    end(o, at)
-}
-
-fn reason(o: &mut Room, start: usize, error: Option<i32>) -> usize {
-    match error {
-        Some(ENOENT) => words(o, start, b'q'),
-        Some(EACCES) => words(o, start, b'x'),
-        Some(EISDIR) => words(o, start, b'd'),
-        Some(number) => {
-            let at = words(o, start, b'y');
-            signed(o, at, wide_32(number))
+impl Unread {
+    pub(crate) fn of(error: Option<i32>) -> Unread {
+        match error {
+            Some(ENOENT) => Unread::NoSuchFile,
+            Some(EACCES) => Unread::NotAllowed,
+            Some(EISDIR) => Unread::Folder,
+            Some(number) => Unread::Other(number),
+            None => Unread::NotText,
         }
-        None => words(o, start, b'z'),
+    }
+
+    // Of an input that has no name, standard input is said.
+    pub(crate) fn tell(&self, o: &mut Room, name: &[u8]) -> io::Result<()> {
+        let why = *self;
+        o.write_all(b"error: can't read ")?;
+        if name.is_empty() {
+            o.write_all(b"standard input")?;
+        }
+        o.write_all(name)?;
+        writeln!(o, ": {why}")
+    }
+}
+
+impl fmt::Display for Unread {
+    fn fmt<W: fmt::Write>(&self, f: &mut fmt::Formatter<W>) -> fmt::Result {
+        match *self {
+            Unread::NoSuchFile => f.write_str("there is no such file"),
+            Unread::NotAllowed => f.write_str("it may not be read"),
+            Unread::Folder => f.write_str("it is a folder"),
+            Unread::Other(number) => write!(f, "the system's error number is {number}"),
+            Unread::NotText => f.write_str("its name is not UTF-8"),
+        }
     }
 }
 
 // An argument that names no file.
-pub(crate) fn no_name(o: &mut Room, start: usize) -> usize {
-    let mut at = words(o, start, b'u');
-    at = words(o, at, b'p');
-    end(o, at)
+pub(crate) fn no_name(o: &mut Room) -> io::Result<()> {
+    writeln!(
+        o,
+        "error: can't read an argument: it is empty, or longer than 4095 bytes"
+    )
 }

@@ -1,199 +1,125 @@
 // The input, a part at a time, through a buffer that holds the longest line.
-use crate::choice::either;
-use crate::out::{LOST, Room};
+ghost use Rattle.std.specs.Prelude.{◌≤◌};
+
+use crate::buffer::Buffers;
+use crate::fault::Unread;
+use crate::line::{Place, TOO_LONG};
+use crate::out::Room;
 use crate::tally::Tally;
-use crate::token::byte_at;
-use crate::values::least;
-use crate::{entry, fault, line, out, tally};
+use crate::{call, line};
 use std::io;
-use std::io::Read;
+use std::io::{Read, Write};
 
-// What one read brings.
-type Part = [u8; 65536];
+// Room for a line that is just too long. What comes behind that is left out.
+#[derive(Drop)]
+struct Line {
+    bytes: [u8; TOO_LONG],
+    len: usize,
+    ghost inside: { len ≤ 524288 },
+}
 
-// Room for a line that is just too long.
-type Text = [u8; 524288];
+impl Line {
+    fn new() -> Line {
+        Line {
+            bytes: [0; TOO_LONG],
+            len: 0,
+        }
+    }
 
-// What was read stands in the part from `from` to `upto`; the first `kept` bytes of the line with the number `row` are kept, and those past the
-// buffer's end are not. `at`: how much of the output's room is taken. `open`: there may be more to read.
-#[derive(Clone, Copy)]
-struct State {
-    from: usize,
-    upto: usize,
-    kept: usize,
+    fn push(&mut self, text: &[u8]) {
+        let n = text.len().min(TOO_LONG - self.len);
+        let end = self.len + n;
+        self.bytes[self.len..end].copy_from_slice(&text[..n]);
+        self.len = end;
+    }
+
+    fn as_slice(&self) -> &[u8] {
+        &self.bytes[..self.len]
+    }
+
+    fn clear(&mut self) {
+        self.len = 0;
+    }
+}
+
+// An input: what it is called, the line that is being read and its number, and the buffers of its calls.
+#[derive(Drop)]
+struct Input<'a> {
+    name: &'a [u8],
     row: usize,
-    at: usize,
-    open: bool,
+    line: Line,
+    buffers: Buffers,
 }
 
-// A read that fails is told, and counted as an error. Of an empty input, says how the program is used.
-fn told(
-    o: &mut Room,
-    at: usize,
-    name: &[u8],
-    tally: &mut Tally,
-    got: &io::Result<usize>,
-    empty: bool,
-) -> usize {
-    match got {
-        Err(e) => {
-            tally::count(tally, tally::ERRORS);
-            fault::unread(o, at, name, e.raw_os_error())
-        }
-        Ok(0) if empty => {
-            let next = entry::usage(o, at);
-            out::end(o, next)
-        }
-        Ok(_) => at,
-    }
-}
-
-// Reads the next part, before which all that was said is written. Where nothing is read, what stands there is the end of the last line.
-fn filled(
-    input: &mut impl Read,
-    name: &[u8],
-    part: &mut Part,
-    o: &mut Room,
-    tally: &mut Tally,
-    s: State,
-) -> State {
-    let at = out::flush(o, s.at);
-    let got = input.read(part);
-    let empty = (s.kept == 0) & (s.row == 1);
-    let next = told(o, at, name, tally, &got, empty);
-    let n = got.unwrap_or(0);
-    if n == 0 {
-        out::store(part, 0, b'\n');
-    }
-    State {
-        from: 0,
-        upto: either(n == 0, 1, n),
-        kept: s.kept,
-        row: s.row,
-        at: next,
-        open: (0 < n) & (at != LOST),
-    }
-}
-
-// Keeps what was read, up to the end of a line.
-fn keep(part: &Part, text: &mut Text, s: State) -> State {
-    let mut i = s.from;
-    let mut k = s.kept;
-    while i < s.upto && byte_at(part, i) != b'\n' {
-        k = out::store(text, k, byte_at(part, i));
-        i += 1;
-    }
-    State {
-        from: i,
-        upto: s.upto,
-        kept: k,
-        row: s.row,
-        at: s.at,
-        open: s.open,
-    }
-}
-
-// Reads on where all that was read is used up.
-fn ready(
-    input: &mut impl Read,
-    name: &[u8],
-    part: &mut Part,
-    o: &mut Room,
-    tally: &mut Tally,
-    s: State,
-) -> State {
-    if s.from < s.upto {
-        s
-    } else {
-        filled(input, name, part, o, tally, s)
-    }
-}
-
-// Keeps more of a line, and answers it where it has its end.
-fn turn(
-    input: &mut impl Read,
-    name: &[u8],
-    part: &mut Part,
-    text: &mut Text,
-    o: &mut Room,
-    tally: &mut Tally,
-    shorts: &mut [i16],
-    words: &mut [i32],
-    one: &mut [u16],
-    two: &mut [u16],
-    before: State,
-) -> State {
-    let r = ready(input, name, part, o, tally, before);
-    let s = keep(part, text, r);
-    if s.from < s.upto {
-        let n = least(s.kept, 524288);
-        if s.open | (0 < n) {
-            tally::count(tally, tally::LINES);
-        }
-        let all = &text[..];
-        let at = line::answered(
-            o,
-            s.at,
-            &all[0..n],
-            name,
-            s.row,
-            tally,
-            shorts,
-            words,
-            one,
-            two,
-        );
-        return State {
-            from: s.from + 1,
-            upto: s.upto,
-            kept: 0,
-            row: std::num::wrapping_add_usize(s.row, 1),
-            at,
-            open: s.open & (at != LOST),
+impl<'a> Input<'a> {
+    // Answers the line that is read.
+    fn answer(&mut self, o: &mut Room, tally: &mut Tally) -> io::Result<()> {
+        let place = Place {
+            name: self.name,
+            row: self.row,
         };
+        tally.line();
+        line::answered(o, self.line.as_slice(), place, tally, &mut self.buffers)?;
+        self.line.clear();
+        self.row = self.row.wrapping_add(1);
+        Ok(())
     }
-    s
+
+    // Takes what was read, and answers each line that has its end there.
+    fn take(&mut self, o: &mut Room, part: &[u8], tally: &mut Tally) -> io::Result<()> {
+        for piece in part.split_inclusive(|b| *b == b'\n') {
+            match piece.strip_suffix(b"\n") {
+                Some(text) => {
+                    self.line.push(text);
+                    self.answer(o, tally)?;
+                }
+                None => self.line.push(piece),
+            }
+        }
+        Ok(())
+    }
+
+    // Whether nothing came yet.
+    fn is_new(&self) -> bool {
+        self.row == 1 && self.line.as_slice().is_empty()
+    }
 }
 
 // Answers the lines of an input, and where it is empty says how the program is used. A proved loop has to end, and nothing says that an input
-// does: the loop counts its turns down from a number that no run uses up.
+// does: the loop counts its turns up to a number that no run reaches.
 pub(crate) fn replay(
     o: &mut Room,
-    at: usize,
     input: &mut impl Read,
     name: &[u8],
     tally: &mut Tally,
-) -> usize {
+) -> io::Result<()> {
     let mut part = [0u8; 65536];
-    let mut text = [0u8; 524288];
-    let mut shorts = [0i16; 16384];
-    let mut words = [0i32; 16384];
-    let mut one = [0u16; 16384];
-    let mut two = [0u16; 16384];
-    let mut s = State {
-        from: 0,
-        upto: 0,
-        kept: 0,
+    let mut read = Input {
+        name,
         row: 1,
-        at,
-        open: true,
+        line: Line::new(),
+        buffers: Buffers::new(),
     };
-    let mut turns = u64::MAX;
-    while 0 < turns && s.open {
-        s = turn(
-            input,
-            name,
-            &mut part,
-            &mut text,
-            o,
-            tally,
-            &mut shorts,
-            &mut words,
-            &mut one,
-            &mut two,
-            s,
-        );
-        turns -= 1;
+    for _ in 0..u64::MAX {
+        // What was said is written before each read.
+        o.flush()?;
+        match input.read(&mut part) {
+            Ok(0) if read.is_new() => call::usage(o)?,
+            Ok(0) => {}
+            Ok(n) => {
+                read.take(o, &part[..n], tally)?;
+                continue;
+            }
+            Err(e) => {
+                tally.error();
+                Unread::of(e.raw_os_error()).tell(o, name)?;
+            }
+        }
+        // A last line may have no end.
+        if !read.line.as_slice().is_empty() {
+            return read.answer(o, tally);
+        }
+        return Ok(());
     }
-    s.at
+    Ok(())
 }

@@ -1,121 +1,118 @@
 // One line of the input.
-use crate::answer::Reply;
-use crate::choice::either_byte;
-use crate::fault::malformed;
-use crate::out::{Room, end, text};
-use crate::read::{Call, NONE, bare, read};
+use crate::answer::Answer;
+use crate::buffer::Buffers;
+use crate::call::Call;
+use crate::fault::{Fault, Malformed};
+use crate::out::Room;
+use crate::read::{Reader, is_blank};
 use crate::tally::Tally;
-use crate::token::{LONG, NOTHING, byte_at, seek};
-use crate::{answer, distortions, entry, tally, transforms, values};
+use crate::{answer, call, distortions, transforms};
+use std::io;
+use std::io::Write;
 
 // From this length on a line is too long.
-const TOO_LONG: usize = 524288;
+pub(crate) const TOO_LONG: usize = 524288;
 
-// Makes the call.
-fn called(c: Call, shorts: &mut [i16], words: &mut [i32], one: &[u16], two: &[u16]) -> Reply {
-    let tag = c.tag;
-    match tag {
-        b'a' => answer::scale(scaling::scale(values::byte(c.n0))),
-        b'b' | b'c' | b'd' | b'e' | b'f' | b'o' | b'p' => transforms::transform(c, shorts, words),
-        b'g' => distortions::diff(c, one, two, shorts),
-        _ => distortions::measure(c, shorts, one, two),
-    }
+// Reads what the call takes, and makes it. Help is none, and answers nothing.
+fn called(r: &mut Reader, b: &mut Buffers) -> Result<Option<Answer>, Malformed> {
+    let answer = match r.call() {
+        Call::Scale => transforms::scale(r)?,
+        Call::Dquant => transforms::dquant(r, b)?,
+        Call::Itxb0 => transforms::itxb0(r, b)?,
+        Call::Itxb1 => transforms::itxb1(r, b)?,
+        Call::Job => transforms::job(r, b)?,
+        Call::JobReported => transforms::job_reported(r, b)?,
+        Call::SubBlock => transforms::sub_block(r, b)?,
+        Call::SubBlockReported => transforms::sub_block_reported(r, b)?,
+        Call::Diff => distortions::diff(r, b)?,
+        Call::Satd => distortions::satd(r, b)?,
+        Call::Ssd16b => distortions::ssd_16b(r, b)?,
+        Call::Ssd16i => distortions::ssd_16i(r, b)?,
+        Call::Sad16b => distortions::sad_16b(r, b)?,
+        Call::SadBi16b => distortions::sad_bi_16b(r, b)?,
+        Call::Sad16i => distortions::sad_16i(r, b)?,
+        Call::SadBi16i => distortions::sad_bi_16i(r, b)?,
+        Call::Help => {
+            r.end()?;
+            return Ok(None);
+        }
+    };
+    Ok(Some(answer))
 }
 
 // What the buffer then holds that the call may write.
-fn written(o: &mut Room, at: usize, tag: u8, shorts: &[i16], words: &[i32]) -> usize {
-    match tag {
-        b'b' | b'd' | b'e' | b'f' | b'g' | b'o' | b'p' => answer::shorts(o, at, shorts),
-        b'c' => answer::longs(o, at, words),
-        _ => at,
+fn written(o: &mut Room, call: Call, b: &Buffers) -> io::Result<()> {
+    match call {
+        Call::Dquant
+        | Call::Itxb1
+        | Call::Job
+        | Call::JobReported
+        | Call::SubBlock
+        | Call::SubBlockReported
+        | Call::Diff => answer::contents(o, b.shorts.as_slice()),
+        Call::Itxb0 => answer::contents(o, b.words.as_slice()),
+        _ => Ok(()),
     }
 }
 
-// Makes the call on its buffers, counts what came, and says it.
-fn made(
-    o: &mut Room,
-    at: usize,
-    c: Call,
-    tally: &mut Tally,
-    shorts: &mut [i16],
-    words: &mut [i32],
-    one: &[u16],
-    two: &[u16],
-) -> usize {
-    let r = called(c, shorts, words, one, two);
-    tally::count(
-        tally,
-        std::num::wrapping_add_usize(tally::ACCEPTED, r.number as usize),
-    );
-    let mut next = answer::write(o, at, r);
-    next = written(o, next, c.tag, shorts, words);
-    end(o, next)
+// Where a line comes from.
+#[derive(Clone, Copy)]
+pub(crate) struct Place<'a> {
+    pub(crate) name: &'a [u8],
+    pub(crate) row: usize,
 }
 
-// Makes a call whose buffers stand in the line. Each is copied to the start of the room for its kind.
-fn buffered(
+fn malformed(o: &mut Room, place: Place, m: Malformed, tally: &mut Tally) -> io::Result<()> {
+    tally.error();
+    m.tell(o, place.name, place.row)
+}
+
+// Makes the call that the line is, counts what came, and says it; or tells that it is none.
+fn replayed(
     o: &mut Room,
-    at: usize,
     line: &[u8],
-    c: Call,
+    place: Place,
     tally: &mut Tally,
-    shorts: &mut [i16],
-    words: &mut [i32],
-    one: &mut [u16],
-    two: &mut [u16],
-) -> usize {
-    let i = values::shorts(line, c.shorts, shorts);
-    let j = values::words(line, c.words, words);
-    let k = values::samples(line, c.one, one);
-    let l = values::samples(line, c.two, two);
-    made(
-        o,
-        at,
-        c,
-        tally,
-        &mut shorts[0..i],
-        &mut words[0..j],
-        &one[0..k],
-        &two[0..l],
-    )
+    b: &mut Buffers,
+) -> io::Result<()> {
+    let mut r = match Reader::new(line) {
+        Ok(r) => r,
+        Err(m) => return malformed(o, place, m, tally),
+    };
+    match called(&mut r, b) {
+        Ok(Some(answer)) => {
+            tally.answer(&answer);
+            answer::write(o, &answer)?;
+            written(o, r.call(), b)?;
+            o.write_all(b"\n")
+        }
+        Ok(None) => call::usage(o),
+        Err(m) => malformed(o, place, m, tally),
+    }
 }
 
 // Answers a line: a comment is repeated, an empty line is passed over, and whatever else is a call or is told to be none. One that is too long is
-// left out; what is matched is then a byte that no line has.
+// left out.
 pub(crate) fn answered(
     o: &mut Room,
-    at: usize,
     line: &[u8],
-    name: &[u8],
-    row: usize,
+    place: Place,
     tally: &mut Tally,
-    shorts: &mut [i16],
-    words: &mut [i32],
-    one: &mut [u16],
-    two: &mut [u16],
-) -> usize {
-    let from = seek(line, 0, false);
-    match either_byte(line.len() < TOO_LONG, byte_at(line, from), b'\n') {
-        b' ' => at,
-        b'#' => {
-            let next = text(o, at, line);
-            end(o, next)
+    b: &mut Buffers,
+) -> io::Result<()> {
+    if TOO_LONG <= line.len() {
+        let m = Malformed {
+            at: TOO_LONG,
+            fault: Fault::Long,
+        };
+        return malformed(o, place, m, tally);
+    }
+    match line.iter().copied().find(|b| !is_blank(*b)) {
+        None => Ok(()),
+        Some(b'#') => {
+            o.write_all(line)?;
+            o.write_all(b"\n")
         }
-        b'\n' => {
-            tally::count(tally, tally::ERRORS);
-            malformed(o, at, line, from, name, row, bare(NONE, TOO_LONG, LONG))
-        }
-        _ => {
-            let c = read(line, from);
-            if c.fault != NOTHING {
-                tally::count(tally, tally::ERRORS);
-                malformed(o, at, line, from, name, row, c)
-            } else if c.tag == b'?' {
-                let next = entry::usage(o, at);
-                end(o, next)
-            } else {
-                buffered(o, at, line, c, tally, shorts, words, one, two)
-            }
-        }
+        Some(_) => replayed(o, line, place, tally, b),
     }
 }

@@ -1,48 +1,55 @@
-// What is counted: lines, calls that are accepted, those that are refused with 1 to 7, and errors.
-use crate::out;
-use crate::out::Room;
-use crate::token::byte_at;
+// What is counted: lines, calls that are accepted, those that are refused, by their numbers from 1 to 7, and errors.
+use crate::answer::Answer;
+use std::fmt;
 
-pub(crate) type Tally = [usize; 10];
-
-pub(crate) const LINES: usize = 0;
-
-pub(crate) const ACCEPTED: usize = 1;
-
-pub(crate) const ERRORS: usize = 9;
-
-// One more of a kind.
-pub(crate) fn count(tally: &mut Tally, kind: usize) {
-    if kind < 10 {
-        tally[kind] = std::num::wrapping_add_usize(tally[kind], 1);
-    }
+#[derive(Clone, Copy, Default)]
+pub(crate) struct Tally {
+    lines: usize,
+    accepted: usize,
+    refused: [usize; 8],
+    errors: usize,
 }
 
-// How many there are of a kind.
-fn of(tally: &Tally, kind: usize) -> usize {
-    if kind < 10 { tally[kind] } else { 0 }
-}
-
-// The last line of all: none where there was nothing to answer. A @ stands for the next count.
-pub(crate) fn total(o: &mut Room, at: usize, tally: &Tally) -> usize {
-    let s =
-        &b"total: @ lines; @ accepted; refused @ SIZE, @ QP, @ SHIFT, @ DEPTH, @ AREA, @ OVERLAP, @ SAMPLE; @ errors
-"[..];
-    if (of(tally, LINES) == 0) & (of(tally, ERRORS) == 0) {
-        return at;
+impl Tally {
+    pub(crate) fn line(&mut self) {
+        self.lines = self.lines.wrapping_add(1);
     }
-    let mut next = at;
-    let mut i = 0;
-    let mut kind = 0;
-    while i < s.len() {
-        let b = byte_at(s, i);
-        if b == b'@' {
-            next = out::number(o, next, of(tally, kind));
-            kind = std::num::wrapping_add_usize(kind, 1);
-        } else {
-            next = out::byte(o, next, b);
+
+    pub(crate) fn error(&mut self) {
+        self.errors = self.errors.wrapping_add(1);
+    }
+
+    pub(crate) fn answer(&mut self, a: &Answer) {
+        match a {
+            Ok(_) => self.accepted = self.accepted.wrapping_add(1),
+            Err(r) => {
+                let number = usize::from(u8::from(r.refusal()));
+                if let Some(n) = self.refused.get_mut(number) {
+                    *n = n.wrapping_add(1);
+                }
+            }
         }
-        i += 1;
     }
-    next
+
+    // Whether there was nothing to answer.
+    pub(crate) fn is_empty(&self) -> bool {
+        self.lines == 0 && self.errors == 0
+    }
+}
+
+impl fmt::Display for Tally {
+    fn fmt<W: fmt::Write>(&self, f: &mut fmt::Formatter<W>) -> fmt::Result {
+        let lines = self.lines;
+        let accepted = self.accepted;
+        let [_, size, qp, shift, depth, area, overlap, sample] = self.refused;
+        let errors = self.errors;
+        write!(
+            f,
+            "total: {lines} lines; {accepted} accepted; refused {size} SIZE, {qp} QP, {shift} SHIFT, {depth} DEPTH, "
+        )?;
+        write!(
+            f,
+            "{area} AREA, {overlap} OVERLAP, {sample} SAMPLE; {errors} errors"
+        )
+    }
 }

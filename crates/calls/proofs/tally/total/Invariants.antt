@@ -1,6 +1,0 @@
--- `calls::tally::total` is safe and ends: what is left of the text is the measure. Assumes nothing.
-use Rattle.std.proofs.Common.{◌-◌, length}
-use Rattle.calls.proofs.tally.total.Given as goal
-
-abbrev pub decreases-loop-i : goal.decreases-loop-i
-decreases-loop-i l = length l.s - l.i
