@@ -4,7 +4,7 @@ ghost use Rattle.evc.specs.Calls.{diff_16b_number, diff_16b_exit, satd_16b, ssd_
 ghost use Rattle.evc.specs.Planes.{plane_of};
 ghost use Rattle.boundary.specs.Told.{Told};
 
-use boundary::{answer_number, tell_distortion, tell_squared};
+use boundary::{answer_number, tell};
 
 #[unsafe(no_mangle)]
 pub extern "C" fn tv_diff(
@@ -44,7 +44,7 @@ pub extern "C" fn tv_satd(
 ) -> u8
     ensures { Told (satd_16b (plane_of org.now width height stride) x y w h cur.now depth) value.old value.new result }
 {
-    tell_distortion(
+    tell(
         satd::evce_satd_16b(org, width, height, stride, x, y, w, h, cur, depth),
         value,
     )
@@ -66,7 +66,7 @@ pub extern "C" fn tv_ssd_16b(
 ) -> u8
     ensures { Told (ssd_16b (plane_of org.now width height stride) x y log2_w log2_h cur.now depth) value.old value.new result }
 {
-    tell_squared(
+    tell(
         ssd::evce_ssd_16b(org, width, height, stride, x, y, log2_w, log2_h, cur, depth),
         value,
     )
@@ -93,7 +93,7 @@ pub extern "C" fn tv_ssd_16i(
         (ssd_16i (plane_of one.now width1 height1 stride1) (plane_of two.now width2 height2 stride2) x y log2_w log2_h depth)
         value.old value.new result }
 {
-    tell_squared(
+    tell(
         ssd::evce_ssd_16i(
             one, width1, height1, stride1, two, width2, height2, stride2, x, y, log2_w, log2_h,
             depth,
@@ -125,7 +125,7 @@ pub extern "C" fn tv_sad_16b(
         (sad_16b (plane_of org.now width height stride) x y (plane_of reference.now ref_width ref_height ref_stride) mv_x mv_y w h depth)
         value.old value.new result }
 {
-    tell_distortion(
+    tell(
         sad::evce_sad_16b(
             org, width, height, stride, x, y, reference, ref_width, ref_height, ref_stride, mv_x,
             mv_y, w, h, depth,
@@ -150,7 +150,7 @@ pub extern "C" fn tv_sad_bi_16b(
 ) -> u8
     ensures { Told (sad_bi_16b bi.now (plane_of reference.now ref_width ref_height ref_stride) mv_x mv_y w h depth) value.old value.new result }
 {
-    tell_distortion(
+    tell(
         sad_bi::evce_sad_bi_16b(
             bi, reference, ref_width, ref_height, ref_stride, mv_x, mv_y, w, h, depth,
         ),
@@ -174,7 +174,7 @@ pub extern "C" fn tv_sad_16i(
 ) -> u8
     ensures { Told (sad_16i (plane_of org.now width height stride) x y w h pred.now depth) value.old value.new result }
 {
-    tell_distortion(
+    tell(
         sad::evce_sad_16i(org, width, height, stride, x, y, w, h, pred, depth),
         value,
     )
@@ -191,5 +191,5 @@ pub extern "C" fn tv_sad_bi_16i(
 ) -> u8
     ensures { Told (sad_bi_16i bi.now pred.now w h depth) value.old value.new result }
 {
-    tell_distortion(sad_bi::evce_sad_bi_16i(bi, pred, w, h, depth), value)
+    tell(sad_bi::evce_sad_bi_16i(bi, pred, w, h, depth), value)
 }

@@ -3,4 +3,4 @@ use Rattle.capi.proofs.Laws.{told-as}
 use Rattle.capi.proofs.distortion.tv_sad_16i.Goals as goal
 
 pub returns : goal.returns
-returns c = told-as c.evce_sad_16i.ensures c.tell_distortion.ensures
+returns c = told-as c.evce_sad_16i.ensures c.tell.ensures

@@ -8,4 +8,4 @@ returns c =
     let fits = c.ranges in
     let mv-x = fits.mv_x in
     let mv-y = fits.mv_y in
-    told-as (simp to_z-of_z at c.evce_sad_bi_16b.ensures) c.tell_distortion.ensures
+    told-as (simp to_z-of_z at c.evce_sad_bi_16b.ensures) c.tell.ensures

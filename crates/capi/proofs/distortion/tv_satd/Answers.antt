@@ -3,4 +3,4 @@ use Rattle.capi.proofs.Laws.{told-as}
 use Rattle.capi.proofs.distortion.tv_satd.Goals as goal
 
 pub returns : goal.returns
-returns c = told-as c.evce_satd_16b.ensures c.tell_distortion.ensures
+returns c = told-as c.evce_satd_16b.ensures c.tell.ensures

@@ -3,4 +3,4 @@ use Rattle.capi.proofs.Laws.{told-as}
 use Rattle.capi.proofs.distortion.tv_ssd_16b.Goals as goal
 
 pub returns : goal.returns
-returns c = told-as c.evce_ssd_16b.ensures c.tell_squared.ensures
+returns c = told-as c.evce_ssd_16b.ensures c.tell.ensures

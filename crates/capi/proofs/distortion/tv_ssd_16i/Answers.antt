@@ -8,4 +8,4 @@ returns c =
     let fits = c.ranges in
     let x = fits.x in
     let y = fits.y in
-    told-as (simp to_z-of_z at c.evce_ssd_16i.ensures) c.tell_squared.ensures
+    told-as (simp to_z-of_z at c.evce_ssd_16i.ensures) c.tell.ensures
