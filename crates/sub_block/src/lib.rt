@@ -34,9 +34,12 @@ pub(crate) fn components(coef: &mut [i16], call: SubBlock)
     requires { sub_reply (length coef.old) call ≡ accepted }
     ensures { coef.new ≡ sub_exit call coef.old }
 {
-    component(&mut coef[..], call.y.map(|part| luma_job(call, part)));
-    component(&mut coef[..], call.u.map(|part| chroma_job(call, part)));
-    component(&mut coef[..], call.v.map(|part| chroma_job(call, part)));
+    let y = call.y.map(|part| luma_job(call, part));
+    let u = call.u.map(|part| chroma_job(call, part));
+    let v = call.v.map(|part| chroma_job(call, part));
+    component(&mut coef[..], y);
+    component(&mut coef[..], u);
+    component(&mut coef[..], v);
 }
 
 pub fn evc_sub_block_itdq2(coef: &mut [i16], call: SubBlock) -> Result<(), SubRefusal>

@@ -8,8 +8,8 @@ ghost use Rattle.evc.specs.SubBlocks.{sub_reply, report_of_sub, sub_exit};
 use crate::{component, components};
 use evc::{Job, Report, SubBlock};
 
-// Neither calls its twin without a report: with a second caller that would no longer stand inside its export, where it takes fewer instructions. What
-// both share is `component`.
+// Neither calls its twin without a report: with a second caller that would no longer stand inside its export, where it takes fewer instructions. They
+// share what does the work.
 pub fn evc_itdq_job_reported(coef: &mut [i16], job: Job) -> Result<(), Report>
     ensures answer { report_number result ≡ job_number (length coef.old) job }
     ensures report { result ≡ report_of_job (length coef.old) job }

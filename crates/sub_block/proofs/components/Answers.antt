@@ -10,25 +10,25 @@ pub component-requires : goal.component-requires
 component-requires c =
     let s = c.args.call in
     job-passed (luma s) s.y (λ p e. luma-accepted _ s p ((all-passed _ s c.requires).y p e))
-    (mapped (luma s) s.y c.map.result (λ p j h. search rules) c.map.ensures.cases) refl
+    (mapped (luma s) s.y c.map-y.result (λ p j h. search rules) c.map-y.ensures.cases) refl
 
 pub component-requires-2 : goal.component-requires-2
 component-requires-2 c =
     let s = c.args.call in
     job-passed (chroma s) s.u (λ p e. chroma-accepted _ s p ((all-passed _ s c.requires).u p e))
-    (mapped (chroma s) s.u c.map-2.result (λ p j h. search rules) c.map-2.ensures.cases) c.component.auto.coef
+    (mapped (chroma s) s.u c.map-u.result (λ p j h. search rules) c.map-u.ensures.cases) c.component.auto.coef
 
 pub component-requires-3 : goal.component-requires-3
 component-requires-3 c =
     let s = c.args.call in
     job-passed (chroma s) s.v (λ p e. chroma-accepted _ s p ((all-passed _ s c.requires).v p e))
-    (mapped (chroma s) s.v c.map-3.result (λ p j h. search rules) c.map-3.ensures.cases) (c.component-2.auto.coef ∙ c.component.auto.coef)
+    (mapped (chroma s) s.v c.map-v.result (λ p j h. search rules) c.map-v.ensures.cases) (c.component-2.auto.coef ∙ c.component.auto.coef)
 
 pub returns : goal.returns
 returns c =
     let s = c.args.call in
     sub-left s c.args.coef.now _ _ _ c.requires
-    (mapped (luma s) s.y c.map.result (λ p j h. search rules) c.map.ensures.cases)
-    (mapped (chroma s) s.u c.map-2.result (λ p j h. search rules) c.map-2.ensures.cases)
-    (mapped (chroma s) s.v c.map-3.result (λ p j h. search rules) c.map-3.ensures.cases)
+    (mapped (luma s) s.y c.map-y.result (λ p j h. search rules) c.map-y.ensures.cases)
+    (mapped (chroma s) s.u c.map-u.result (λ p j h. search rules) c.map-u.ensures.cases)
+    (mapped (chroma s) s.v c.map-v.result (λ p j h. search rules) c.map-v.ensures.cases)
     c.component.ensures c.component-2.ensures c.component-3.ensures
