@@ -1,27 +1,17 @@
 -- Which of the three sizes the places of the sums say, and what follows of it. Assumes nothing.
-use Rattle.std.proofs.Common.{inl, inr}
+use Rattle.std.proofs.Common.{◌≢◌, inl, inr, not, ◌&&◌, false, nat_eq}
+use Rattle.std.proofs.lemmas.Bool.Decides.{nat_tests}
 use mathlib.Core.Path.{◌≡◌, subst}
 use mathlib.Core.List.{List}
-use Prim.Native.Nat.{ℕ, ◌*◌, ◌/◌, ◌<◌, ◌≤◌}
+use Prim.Native.Nat.{ℕ, ◌*◌, ◌/◌}
 use native.Mathlib.Omega.{arith}
 use lib.IntN.{ℤ}
 use Rattle.integers.specs.Lists.{tab}
 use Rattle.itx_lanes.specs.Lanes.{lane_sum, AnySize}
 
-pub is_256 : {P : ℕ} → AnySize P → P < 512 → P ≡ 256
-is_256 (inl e) h = e
-is_256 (inr (inl e)) h = absurd (omega arith)
-is_256 (inr (inr e)) h = absurd (omega arith)
-
-pub is_512 : {P : ℕ} → AnySize P → 512 ≤ P → P < 1024 → P ≡ 512
-is_512 (inl e) l h = absurd (omega arith)
-is_512 (inr (inl e)) l h = e
-is_512 (inr (inr e)) l h = absurd (omega arith)
-
-pub is_1024 : {P : ℕ} → AnySize P → 1024 ≤ P → P ≡ 1024
-is_1024 (inl e) l = absurd (omega arith)
-is_1024 (inr (inl e)) l = absurd (omega arith)
-is_1024 (inr (inr e)) l = e
+-- what is left of the sizes where the test of all three and those of the smaller ones have passed
+pub is_1024 : {P : ℕ} → (not (nat_eq P 256) && not (nat_eq P 512)) && not (nat_eq P 1024) ≡ false → P ≢ 256 → P ≢ 512 → P ≡ 1024
+is_1024 t a b = grind (arith, nat_tests)
 
 -- P places are those of size N
 module _ (N : ℕ) {P : ℕ} (p : P ≡ N * 16) (w : AnySize P) where

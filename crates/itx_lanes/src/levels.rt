@@ -32,20 +32,21 @@ fn rows<const M: usize, const FROM: usize, const TO: usize>(s: &[i16; 1024], e: 
     }
 }
 
-// The sums of size 16, 32 or 64, as the P places say: place n of lane j stands at n·16+j. Input k stands in row k·4, k·2 or k.
+// The sums of size 16, 32 or 64, as the P places say: place n of lane j stands at n·16+j. Any other number of places is left as it is.
 pub fn sums<const P: usize>(s: &[i16; 1024], e: &mut [i32; P])
-    ensures { AnySize P → e.new ≡ tab P (lane_sum (P / 16) s.now) }
+    ensures sized { AnySize P → e.new ≡ tab P (lane_sum (P / 16) s.now) }
+    ensures other { (AnySize P → ⊥) → e.new ≡ e.old }
 {
-    if P < 256 {
+    if (P != 256) & (P != 512) & (P != 1024) {
         return;
     }
     base(s, e);
     rows::<8, 0, 8>(s, e);
-    if P < 512 {
+    if P == 256 {
         return;
     }
     rows::<16, 0, 16>(s, e);
-    if P < 1024 {
+    if P == 512 {
         return;
     }
     rows::<32, 0, 16>(s, e);

@@ -13,5 +13,5 @@ pub returns : goal.returns
 returns g c =
     let a = c.args in
     let w = c.requires.0 in
-    block-stored a.src.now g.row.N (1024 / g.row.N) a.l a.j0 g.row.P (row-stride g.row.N w.0 w.1) w.0 (omega arith) c.gather.ensures (is_size g.row.N w.0 w.1 _ c.sums.ensures)
+    block-stored a.src.now g.row.N (1024 / g.row.N) a.l a.j0 g.row.P (row-stride g.row.N w.0 w.1) w.0 (omega arith) c.gather.ensures (is_size g.row.N w.0 w.1 _ c.sums.ensures.sized)
     (lanes_all c.loop-j.invariant c.loop-j-test.false)
