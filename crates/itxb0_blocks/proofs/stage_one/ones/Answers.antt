@@ -8,7 +8,7 @@ use lib.IntN.{ℤ}
 use Rattle.evc.specs.Table.{tm}
 use Rattle.evc.specs.Stages.{stage_one_at}
 use Rattle.itx_halving.specs.Blocks.{BlockRoom, Blocked}
-use Rattle.itx_halving.proofs.Places.{block-word, blocks-none, blocks-room, blocks_more, blocks-all}
+use Rattle.itx_halving.proofs.Places.{blocks-none, blocks-room, blocks_more, blocks-all}
 use Rattle.itxb0_blocks.proofs.stage_one.ones.Goals.{In-loop-i, in-4, in-5, in_default}
 use Rattle.itxb0_blocks.proofs.stage_one.ones.Goals as goal
 

@@ -13,4 +13,4 @@ returns g c =
     let a = c.args in
     let w = c.requires.0 in
     block-joined c.requires.1.0 a.src.now (1024 / g.row.N) a.l a.j0 g.row.P (row-stride g.row.N w.0 w.1) w.0 (omega arith) c.gather.ensures
-    (is_size g.row.N w.0 w.1 _ c.sums.ensures.sized) c.gather-2.ensures (is_size g.row.N w.0 w.1 _ c.sums-2.ensures) c.store.ensures
+    (is_size g.row.N w.0 w.1 _ c.sums.ensures.sized) c.gather-2.ensures (is_size g.row.N w.0 w.1 _ c.sums-2.ensures.sized) c.store.ensures
