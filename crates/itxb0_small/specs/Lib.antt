@@ -1,2 +1,3 @@
--- How large the sums of stage one are.
+-- How large the sums of stage one are, and which sizes go by straight code.
 pub mod Sums
+pub mod Sizes

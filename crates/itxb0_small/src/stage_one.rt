@@ -7,42 +7,26 @@ ghost use Rattle.evc.specs.Table.{tm};
 ghost use Rattle.evc.specs.Stages.{stage_one_at};
 ghost use Rattle.itx_halving.specs.Lines.{StageRoom};
 ghost use Rattle.itx_halving.specs.Taken.{takes_one, done_one};
+ghost use Rattle.itxb0_small.specs.Sizes.{Size};
 
 use super::narrow::{line2, line4, line8};
 use super::store::store_i32;
 
-// The l lines of each size.
-fn rows2(src: &[i16], dst: &mut [i32], l: usize)
-    requires { StageRoom src.now dst.old 2 l }
-    ensures { dst.new ≡ written (2 * l) (stage_one_at (tm 2) 2 l src.now) dst.old }
+// The l lines of a size. The size is a const parameter, so that each has code of its own.
+fn rows<const N: usize>(src: &[i16], dst: &mut [i32], l: usize)
+    requires { Size N × StageRoom src.now dst.old N l }
+    ensures { dst.new ≡ written (N * l) (stage_one_at (tm N) N l src.now) dst.old }
 {
     for j in 0..l {
         let t = itx_table::table();
-        let y = line2(&t, 2048, src, l, j);
-        store_i32(&y, dst, 2, j);
-    }
-}
-
-fn rows4(src: &[i16], dst: &mut [i32], l: usize)
-    requires { StageRoom src.now dst.old 4 l }
-    ensures { dst.new ≡ written (4 * l) (stage_one_at (tm 4) 4 l src.now) dst.old }
-{
-    for j in 0..l {
-        let t = itx_table::table();
-        let e = line4(&t, 1024, src, l, j);
-        let y = [e.0, e.1, e.2, e.3];
-        store_i32(&y, dst, 4, j);
-    }
-}
-
-fn rows8(src: &[i16], dst: &mut [i32], l: usize)
-    requires { StageRoom src.now dst.old 8 l }
-    ensures { dst.new ≡ written (8 * l) (stage_one_at (tm 8) 8 l src.now) dst.old }
-{
-    for j in 0..l {
-        let t = itx_table::table();
-        let y = line8(&t, 512, src, l, j);
-        store_i32(&y, dst, 8, j);
+        match N {
+            2 => store_i32(&line2(&t, 2048, src, l, j), dst, 2, j),
+            4 => {
+                let e = line4(&t, 1024, src, l, j);
+                store_i32(&[e.0, e.1, e.2, e.3], dst, 4, j)
+            }
+            _ => store_i32(&line8(&t, 512, src, l, j), dst, 8, j),
+        }
     }
 }
 
@@ -52,15 +36,15 @@ fn lines(src: &[i16], dst: &mut [i32], log: usize, l: usize)
     ensures { dst.new ≡ written ((2 ^ log) * l) (stage_one_at (tm (2 ^ log)) (2 ^ log) l src.now) dst.old }
 {
     match log {
-        1 => rows2(src, dst, l),
+        1 => rows::<2>(src, dst, l),
         2 => {
             if l == 4 {
-                rows4(src, dst, 4)
+                rows::<4>(src, dst, 4)
             } else {
-                rows4(src, dst, l)
+                rows::<4>(src, dst, l)
             }
         }
-        _ => rows8(src, dst, l),
+        _ => rows::<8>(src, dst, l),
     }
 }
 
@@ -76,7 +60,7 @@ pub fn itxb0(src: &[i16], dst: &mut [i32], log2_size: usize, log2_line: usize) -
         if log2_size == 1 {
             let taken = itx_halving::takes(1, 3, 0, n, m, log2_size, log2_line, 0);
             if taken {
-                rows2(src, dst, 2);
+                rows::<2>(src, dst, 2);
             }
             return taken;
         }

@@ -2,6 +2,7 @@
 use mathlib.Core.Path.{◌≡◌, refl, sym, subst, ◌∙◌}
 use mathlib.Core.Bool.{Bool, true, false}
 use mathlib.Core.List.{List}
+use Rattle.std.proofs.Common.{inl}
 use Prim.Native.Nat.{ℕ, ◌*◌, ◌^◌, ◌%◌}
 use native.Mathlib.Omega.{arith}
 use lib.ListN.{length}
@@ -57,14 +58,14 @@ two_rooms s a b g = rw a at (lines-rooms s 2 (two s b) g)
 two-stored : (s : Start) (d : List ℤ) → s.args.log2_size ≡ 1 → d ≡ written 4 (stage_one_at (tm 2) 2 2 s.args.src.now) s.args.dst.now → Stored s d 2
 two-stored s d a p = rw a p
 
-pub rows2-requires : goal.rows2-requires
-rows2-requires c =
-    two_rooms (goal.at.rows2-requires c).Start c.if-log2_size-eq1.true c.if-log2_line-eq1.true (sym c.takes-taken.ensures ∙ c.if-taken.true)
+pub rows-requires : goal.rows-requires
+rows-requires c =
+    (inl refl, two_rooms (goal.at.rows-requires c).Start c.if-log2_size-eq1.true c.if-log2_line-eq1.true (sym c.takes-taken.ensures ∙ c.if-taken.true))
 
 pub returns-then-taken : goal.returns-then-taken
 returns-then-taken c =
     let both = done (goal.at.returns-then-taken c).Start c.takes-taken.result _ 2 c.takes-taken.ensures c.if-taken.true (two (goal.at.returns-then-taken c).Start c.if-log2_line-eq1.true)
-    (two-stored (goal.at.returns-then-taken c).Start _ c.if-log2_size-eq1.true c.rows2.ensures) in record { did = both.0; exit = both.1 }
+    (two-stored (goal.at.returns-then-taken c).Start _ c.if-log2_size-eq1.true c.rows.ensures) in record { did = both.0; exit = both.1 }
 
 pub returns-else-taken : goal.returns-else-taken
 returns-else-taken c =

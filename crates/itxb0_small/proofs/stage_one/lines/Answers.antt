@@ -1,6 +1,7 @@
 -- `itxb0_small::stage_one::lines` meets its contract: of a log that is known, and of 4 lines where there are 4. Assumes nothing.
 use mathlib.Core.Path.{◌≡◌, refl, sym, subst}
 use mathlib.Core.List.{List}
+use Rattle.std.proofs.Common.{inl, inr}
 use Prim.Native.Nat.{ℕ, ◌*◌, ◌^◌}
 use native.Mathlib.Omega.{arith}
 use lib.IntN.{ℤ}
@@ -24,26 +25,26 @@ module _ (s : Start) where
   stored : (d : List ℤ) (g l : ℕ) → s.args.log ≡ g → s.args.l ≡ l → Stored d g l → Stored d s.args.log s.args.l
   stored d g l e f p = subst (λ (g : ℕ). Stored d g s.args.l) (sym e) (subst (Stored d g) (sym f) p)
 
-pub rows2-requires : goal.rows2-requires
-rows2-requires c = room (goal.at.rows2-requires c).Start 1 c.args.l c.in-1.is refl
+pub rows-requires : goal.rows-requires
+rows-requires c = (inl refl, room (goal.at.rows-requires c).Start 1 c.args.l c.in-1.is refl)
 
-pub rows4-requires : goal.rows4-requires
-rows4-requires c = room (goal.at.rows4-requires c).Start 2 4 c.in-2.is c.if-l-eq4.true
+pub rows-requires-then-l-eq4 : goal.rows-requires-then-l-eq4
+rows-requires-then-l-eq4 c = (inr (inl refl), room (goal.at.rows-requires-then-l-eq4 c).Start 2 4 c.in-2.is c.if-l-eq4.true)
 
-pub rows4-requires-else-l-eq4 : goal.rows4-requires-else-l-eq4
-rows4-requires-else-l-eq4 c = room (goal.at.rows4-requires-else-l-eq4 c).Start 2 c.args.l c.in-2.is refl
+pub rows-requires-else-l-eq4 : goal.rows-requires-else-l-eq4
+rows-requires-else-l-eq4 c = (inr (inl refl), room (goal.at.rows-requires-else-l-eq4 c).Start 2 c.args.l c.in-2.is refl)
 
-pub rows8-requires : goal.rows8-requires
-rows8-requires c = room (goal.at.rows8-requires c).Start 3 c.args.l (omega (arith, c.requires.0.0, c.requires.0.1)) refl
+pub rows-requires-in_default : goal.rows-requires-in_default
+rows-requires-in_default c = (inr (inr refl), room (goal.at.rows-requires-in_default c).Start 3 c.args.l (omega (arith, c.requires.0.0, c.requires.0.1)) refl)
 
 pub returns-in-1 : goal.returns-in-1
-returns-in-1 c = stored (goal.at.returns-in-1 c).Start _ 1 c.args.l c.in-1.is refl c.rows2.ensures
+returns-in-1 c = stored (goal.at.returns-in-1 c).Start _ 1 c.args.l c.in-1.is refl c.rows.ensures
 
 pub returns-then-l-eq4 : goal.returns-then-l-eq4
-returns-then-l-eq4 c = stored (goal.at.returns-then-l-eq4 c).Start _ 2 4 c.in-2.is c.if-l-eq4.true c.rows4.ensures
+returns-then-l-eq4 c = stored (goal.at.returns-then-l-eq4 c).Start _ 2 4 c.in-2.is c.if-l-eq4.true c.rows-then-l-eq4.ensures
 
 pub returns-else-l-eq4 : goal.returns-else-l-eq4
-returns-else-l-eq4 c = stored (goal.at.returns-else-l-eq4 c).Start _ 2 c.args.l c.in-2.is refl c.rows4-else-l-eq4.ensures
+returns-else-l-eq4 c = stored (goal.at.returns-else-l-eq4 c).Start _ 2 c.args.l c.in-2.is refl c.rows-else-l-eq4.ensures
 
 pub returns-in_default : goal.returns-in_default
-returns-in_default c = stored (goal.at.returns-in_default c).Start _ 3 c.args.l (omega (arith, c.requires.0.0, c.requires.0.1)) refl c.rows8.ensures
+returns-in_default c = stored (goal.at.returns-in_default c).Start _ 3 c.args.l (omega (arith, c.requires.0.0, c.requires.0.1)) refl c.rows-in_default.ensures

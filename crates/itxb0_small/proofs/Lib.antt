@@ -1,0 +1,2 @@
+-- Laws of the sizes.
+pub mod Sizes
