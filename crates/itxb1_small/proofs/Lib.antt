@@ -1,2 +1,3 @@
--- What size 8 keeps and clips.
+-- Laws of the sizes, and what size 8 keeps and clips.
+pub mod Sizes
 pub mod Quotients

@@ -5,35 +5,32 @@ ghost use Rattle.integers.specs.Lists.{written};
 ghost use Rattle.evc.specs.Table.{tm};
 ghost use Rattle.evc.specs.Tests.{samples_of};
 ghost use Rattle.evc.specs.Stages.{stage_two_at};
-ghost use Rattle.itx_halving.specs.Lines.{Amount, StageRoom};
+ghost use Rattle.itx_halving.specs.Lines.{StageRoom};
 ghost use Rattle.itx_halving.specs.Taken.{Call, takes_two, done_two};
+ghost use Rattle.itxb1_small.specs.Sizes.{Size};
 
 use super::eight::rows8;
 use super::store::store_i16;
 use super::wide::{line2, line4};
+use itx_halving::Tail;
 
-// The l lines of each size.
-fn rows2(src: &[i32], dst: &mut [i16], l: usize, add: i64, shift: u8)
-    requires { Amount add shift × StageRoom src.now dst.old 2 l }
-    ensures { dst.new ≡ written (2 * l) (stage_two_at (tm 2) 2 l shift src.now) dst.old }
+// The l lines of a size. The size is a const parameter, so that each has code of its own.
+fn rows<const N: usize>(src: &[i32], dst: &mut [i16], l: usize, r: Tail)
+    requires { Size N × StageRoom src.now dst.old N l }
+    ensures { dst.new ≡ written (N * l) (stage_two_at (tm N) N l r.shift src.now) dst.old }
 {
     for j in 0..l {
         let t = itx_table::table();
-        let e = line2(&t, 2048, src, l, j);
-        let y = [e.0, e.1];
-        store_i16(&y, dst, 2, j, add, shift);
-    }
-}
-
-fn rows4(src: &[i32], dst: &mut [i16], l: usize, add: i64, shift: u8)
-    requires { Amount add shift × StageRoom src.now dst.old 4 l }
-    ensures { dst.new ≡ written (4 * l) (stage_two_at (tm 4) 4 l shift src.now) dst.old }
-{
-    for j in 0..l {
-        let t = itx_table::table();
-        let e = line4(&t, 1024, src, l, j);
-        let y = [e.0, e.1, e.2, e.3];
-        store_i16(&y, dst, 4, j, add, shift);
+        match N {
+            2 => {
+                let e = line2(&t, 2048, src, l, j);
+                store_i16(&[e.0, e.1], dst, 2, j, r)
+            }
+            _ => {
+                let e = line4(&t, 1024, src, l, j);
+                store_i16(&[e.0, e.1, e.2, e.3], dst, 4, j, r)
+            }
+        }
     }
 }
 
@@ -43,17 +40,20 @@ fn lines(src: &[i32], dst: &mut [i16], log: usize, log2_line: usize, shift: u8)
     ensures { dst.new ≡ written (samples_of log log2_line) (stage_two_at (tm (2 ^ log)) (2 ^ log) (2 ^ log2_line) shift src.now) dst.old }
 {
     let l = 1usize << log2_line;
-    let add = itx_halving::rounding(shift);
+    let r = Tail {
+        add: itx_halving::rounding(shift),
+        shift,
+    };
     match log {
-        1 => rows2(src, dst, l, add, shift),
+        1 => rows::<2>(src, dst, l, r),
         2 => {
             if l == 4 {
-                rows4(src, dst, 4, add, shift)
+                rows::<4>(src, dst, 4, r)
             } else {
-                rows4(src, dst, l, add, shift)
+                rows::<4>(src, dst, l, r)
             }
         }
-        _ => rows8(src, dst, l, add, shift),
+        _ => rows8(src, dst, l, r),
     }
 }
 
@@ -69,8 +69,11 @@ pub fn itxb1(src: &[i32], dst: &mut [i16], log2_size: usize, log2_line: usize, s
         if log2_size == 1 {
             let taken = itx_halving::takes(1, 3, 0, n, m, log2_size, log2_line, shift);
             if taken {
-                let add = itx_halving::rounding(shift);
-                rows2(src, dst, 2, add, shift);
+                let r = Tail {
+                    add: itx_halving::rounding(shift),
+                    shift,
+                };
+                rows::<2>(src, dst, 2, r);
             }
             return taken;
         }

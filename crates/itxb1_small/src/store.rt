@@ -3,16 +3,18 @@
 // and none of 64.
 ghost use Rattle.std.specs.Prelude.{◌≡◌, ℕ, ◌+◌, ◌*◌, ◌≤◌, ◌<◌, length, get_or, pos, nat_abs};
 ghost use Rattle.integers.specs.Z.{floor_pow, clip16, clip32};
-ghost use Rattle.itx_halving.specs.Lines.{shifted, Amount, Bounded, Next};
+ghost use Rattle.itx_halving.specs.Lines.{shifted, Bounded, Next};
 ghost use Rattle.itxb1_small.specs.Sums.{most8};
 
+use itx_halving::Tail;
+
 // Sizes 2 and 4: each sum rounded, divided by 2^shift toward minus infinity, and clipped to 16 bits.
-pub(crate) fn store_i16(y: &[i64], dst: &mut [i16], n: usize, j: usize, add: i64, shift: u8)
-    requires { (Amount add shift × Bounded y.now n) × ((n ≤ length y.now) × (j * n + n ≤ length dst.old)) }
-    ensures { Next dst.old dst.new (j * n) n (λ k. shifted shift (get_or y.now k (pos 0))) }
+pub(crate) fn store_i16(y: &[i64], dst: &mut [i16], n: usize, j: usize, r: Tail)
+    requires { Bounded y.now n × ((n ≤ length y.now) × (j * n + n ≤ length dst.old)) }
+    ensures { Next dst.old dst.new (j * n) n (λ k. shifted r.shift (get_or y.now k (pos 0))) }
 {
     for k in 0..n {
-        dst[j * n + k] = integers::clip16((y[k] + add) >> shift);
+        dst[j * n + k] = integers::clip16((y[k] + r.add) >> r.shift);
     }
 }
 

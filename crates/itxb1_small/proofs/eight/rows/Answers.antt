@@ -1,11 +1,17 @@
 -- `itxb1_small::eight::rows` meets its contract: line after line, summed with document 01's table, and kept. Assumes nothing.
-use mathlib.Core.Path.{ap, ap₂, ◌∙◌}
-use Prim.Native.Nat.{◌+◌}
+use mathlib.Core.Path.{◌≡◌, sym, ap, ap₂, ◌∙◌, subst}
+use mathlib.Core.List.{[], ◌∷◌}
+use Prim.Native.Nat.{ℕ, ◌+◌}
 use native.Mathlib.Omega.{arith}
 use lib.IntN.{ℤ, ◌+ℤ◌}
-use mir.Facts.{to_z-of_z}
+use mir.Syntax.{w64}
+use mir.Val.{to_z, of_z}
 use Rattle.integers.specs.Z.{floor_pow, clip32}
+use Rattle.integers.proofs.Bound.{Within}
+use Rattle.integers.proofs.Expr.{var, small, env, reads}
 use Rattle.evc.specs.Table.{tm}
+use Rattle.evc.specs.Stages.{rounding}
+use Rattle.itx_halving.specs.Lines.{Amount}
 use Rattle.itx_halving.specs.Line.{rows}
 use Rattle.itx_halving.proofs.Instance.{built-in-table, built-in-same}
 use Rattle.itx_halving.proofs.Lines.{next-ext, rounding-within, upto-none, upto-room, upto-more, upto_all}
@@ -13,25 +19,30 @@ use Rattle.itx_halving.proofs.Rows.{reach-at, same_sum}
 use Rattle.itxb1_small.proofs.Quotients.{kept_at}
 use Rattle.itxb1_small.proofs.eight.rows.Goals as goal
 
+-- the rounding number as it is handed on
+handed : (add : ℤ) (shift : ℕ) → Amount add shift → to_z w64 (of_z w64 add) ≡ rounding shift
+handed add shift a =
+    reads (env (small w64 add 2147483648 (subst (Within 2147483648) (sym a.is) (rounding-within shift a.most)) tt ∷ [])) (var 0) tt ∙ a.is
+
 pub loop-j-init : goal.loop-j-init
-loop-j-init c = upto-none (omega (arith, c.requires.1.few, c.requires.1.z-room))
+loop-j-init c = upto-none (omega (arith, c.requires.few, c.requires.z-room))
 
 pub overflow_add-j0 : goal.overflow_add-j0
-overflow_add-j0 c = omega (arith, c.requires.1.among, c.loop-j-test.true)
+overflow_add-j0 c = omega (arith, c.requires.among, c.loop-j-test.true)
 
 pub line8-y-requires : goal.line8-y-requires
 line8-y-requires c =
     let t = built-in-table 3 (omega arith) _ c.table-t.ensures in
     let u = built-in-table 2 (omega arith) _ c.table-t.ensures in (
-      (reach-at 512 8 _ _ t (omega (arith, c.requires.1.among, c.loop-j-test.true)) c.requires.1.src-room, (t.mirrored, u.mirrored)),
-      rw (to_z-of_z c.ranges.add, c.requires.0.is) (rounding-within c.args.shift c.requires.0.most).bound,
+      (reach-at 512 8 _ _ t (omega (arith, c.requires.among, c.loop-j-test.true)) c.requires.src-room, (t.mirrored, u.mirrored)),
+      rw (handed c.args.r.add c.args.r.shift c.args.r.amount) (rounding-within c.args.r.shift c.args.r.amount.most).bound,
     )
 
 pub store_quotients-requires : goal.store_quotients-requires
 store_quotients-requires c =
     let y = c.line8-y.ensures in
-    let g = c.requires.1 in (
-      (c.requires.0.most, y.small),
+    let g = c.requires in (
+      (c.args.r.amount.most, y.small),
       (
         omega (arith, y.long),
         (
@@ -53,8 +64,8 @@ loop-j-preserved c =
     (next-ext c.store_quotients.ensures
     (λ k h.
     let e = same_sum (rows c.table-t.result 512) (tm 8) 8 c.args.l (c.args.j0 + c.loop-j.j) k c.args.src.now (built-in-same 3 (omega arith) _ c.table-t.ensures) h in
-    ap (λ (z : ℤ). clip32 (floor_pow z c.args.shift)) (c.line8-y.ensures.at k h ∙ ap₂ ◌+ℤ◌ e (to_z-of_z c.ranges.add ∙ c.requires.0.is))
-    ∙ kept_at c.args.l c.args.shift c.args.src.now c.args.j0 c.loop-j.j k h))
+    ap (λ (z : ℤ). clip32 (floor_pow z c.args.r.shift)) (c.line8-y.ensures.at k h ∙ ap₂ ◌+ℤ◌ e (handed c.args.r.add c.args.r.shift c.args.r.amount))
+    ∙ kept_at c.args.l c.args.r.shift c.args.src.now c.args.j0 c.loop-j.j k h))
 
 pub shape_of-z : goal.shape_of-z
 shape_of-z c = c.loop-j.invariant.long

@@ -5,7 +5,7 @@ use Rattle.itxb1_small.specs.Groups.{quotient_at}
 use Rattle.itxb1_small.proofs.eight.rows.Given as goal
 
 abbrev pub invariant-loop-j : goal.invariant-loop-j
-invariant-loop-j l = Upto (λ i. quotient_at l.l l.shift l.src (l.j0 * 8 + i)) 8 l.m l.initial.z l.z l.j
+invariant-loop-j l = Upto (λ i. quotient_at l.l l.r.shift l.src (l.j0 * 8 + i)) 8 l.m l.initial.z l.z l.j
 
 abbrev pub decreases-loop-j : goal.decreases-loop-j
 decreases-loop-j l = l.m - l.j

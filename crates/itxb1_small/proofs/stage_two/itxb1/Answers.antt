@@ -1,7 +1,8 @@
 -- `itxb1_small::stage_two::itxb1` meets its contract: an own call by its lines, and every other left alone. Assumes nothing.
-use mathlib.Core.Path.{◌≡◌, sym, subst, ◌∙◌}
+use mathlib.Core.Path.{◌≡◌, refl, sym, subst, ◌∙◌}
 use mathlib.Core.Bool.{Bool, true, false}
 use mathlib.Core.List.{List}
+use Rattle.std.proofs.Common.{inl}
 use Prim.Native.Nat.{ℕ, ◌^◌}
 use lib.ListN.{length}
 use lib.IntN.{ℤ}
@@ -88,15 +89,18 @@ did-2 c = sym c.takes-taken.ensures ∙ c.if-taken.true
 did-4 : (c : Then-taken-2) → takes 1 3 0 c.args.log2_size c.args.log2_line (stage_two_number (length c.args.src.now) (length c.args.dst.now) c.args.log2_size c.args.log2_line c.args.shift) ≡ true
 did-4 c = sym c.takes-taken-2.ensures ∙ c.if-taken-2.true
 
-pub rows2-requires : goal.rows2-requires
-rows2-requires c = (
-  amount c.args.shift (known (goal.at.rows2-requires c).Start (did-2 (goal.at.rows2-requires c).Then-taken)).shift-most (back w64 c.rounding-add.result c.rounding-add.type_inv ∙ c.rounding-add.ensures),
-  two_rooms (goal.at.rows2-requires c).Start c.if-log2_size-eq1.true c.if-log2_line-eq1.true (did-2 (goal.at.rows2-requires c).Then-taken),
-)
+pub invariant_of-r : goal.invariant_of-r
+invariant_of-r c = record {
+  amount = amount c.args.shift (known (goal.at.invariant_of-r c).Start (did-2 (goal.at.invariant_of-r c).Then-taken)).shift-most (back w64 c.rounding.result c.rounding.type_inv ∙ c.rounding.ensures);
+}
+
+pub rows-requires : goal.rows-requires
+rows-requires c =
+    (inl refl, two_rooms (goal.at.rows-requires c).Start c.if-log2_size-eq1.true c.if-log2_line-eq1.true (did-2 (goal.at.rows-requires c).Then-taken))
 
 pub returns-then-taken : goal.returns-then-taken
 returns-then-taken c =
-    let both = done (goal.at.returns-then-taken c).Start c.takes-taken.result _ c.takes-taken.ensures c.if-taken.true (two-lines (goal.at.returns-then-taken c).Start _ c.if-log2_size-eq1.true c.if-log2_line-eq1.true c.rows2.ensures) in record { did = both.0; exit = both.1 }
+    let both = done (goal.at.returns-then-taken c).Start c.takes-taken.result _ c.takes-taken.ensures c.if-taken.true (two-lines (goal.at.returns-then-taken c).Start _ c.if-log2_size-eq1.true c.if-log2_line-eq1.true c.rows.ensures) in record { did = both.0; exit = both.1 }
 
 pub returns-else-taken : goal.returns-else-taken
 returns-else-taken c =

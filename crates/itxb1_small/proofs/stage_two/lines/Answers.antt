@@ -1,6 +1,7 @@
 -- `itxb1_small::stage_two::lines` meets its contract: of a log that is known, and of 4 lines where there are 4. Assumes nothing.
 use mathlib.Core.Path.{◌≡◌, refl, sym, ◌∙◌, subst}
 use mathlib.Core.List.{List}
+use Rattle.std.proofs.Common.{inl, inr}
 use Prim.Native.Nat.{ℕ, ◌*◌, ◌^◌, ◌%◌}
 use native.Mathlib.Omega.{arith}
 use lib.IntN.{ℤ}
@@ -15,7 +16,7 @@ use Rattle.itx_halving.proofs.Lines as law
 use Rattle.itx_halving.proofs.Taken as takes
 use Rattle.itxb1_small.proofs.Quotients.{groups-whole}
 use Rattle.integers.proofs.Bits.{back}
-use Rattle.itxb1_small.proofs.stage_two.lines.Goals.{After-rounding-add, Start}
+use Rattle.itxb1_small.proofs.stage_two.lines.Goals.{After-rounding, Start}
 use Rattle.itxb1_small.proofs.stage_two.lines.Goals as goal
 
 module _ (s : Start) where
@@ -45,36 +46,48 @@ module _ (s : Start) where
       law.stage-end (left s.args.log) s.args.dst.now s.args.log s.args.log2_line l count
       (subst (λ (g : ℕ). d ≡ written (2 ^ g * l) (left g l) s.args.dst.now) (sym e) (subst (λ (n : ℕ). d ≡ written (2 ^ g * n) (left g n) s.args.dst.now) (sym f) p))
 
-amount : (c : After-rounding-add) → Amount (to_z w64 (of_z w64 c.rounding-add.result)) c.args.shift
-amount c = law.amount c.args.shift c.requires.shift-most (back w64 c.rounding-add.result c.rounding-add.type_inv ∙ c.rounding-add.ensures)
+amount : (c : After-rounding) → Amount (to_z w64 (of_z w64 c.rounding.result)) c.args.shift
+amount c = law.amount c.args.shift c.requires.shift-most (back w64 c.rounding.result c.rounding.type_inv ∙ c.rounding.ensures)
+
+pub invariant_of-r : goal.invariant_of-r
+invariant_of-r c = record { amount = amount (goal.at.invariant_of-r c).After-rounding }
+
+pub invariant_of-r-then-l-eq4 : goal.invariant_of-r-then-l-eq4
+invariant_of-r-then-l-eq4 c = record { amount = amount (goal.at.invariant_of-r-then-l-eq4 c).After-rounding }
+
+pub invariant_of-r-else-l-eq4 : goal.invariant_of-r-else-l-eq4
+invariant_of-r-else-l-eq4 c = record { amount = amount (goal.at.invariant_of-r-else-l-eq4 c).After-rounding }
+
+pub invariant_of-r-in_default : goal.invariant_of-r-in_default
+invariant_of-r-in_default c = record { amount = amount (goal.at.invariant_of-r-in_default c).After-rounding }
 
 pub overflow_shl-l : goal.overflow_shl-l
 overflow_shl-l c = omega (arith, c.requires.line-most)
 
-pub rows2-requires : goal.rows2-requires
-rows2-requires c = (amount (goal.at.rows2-requires c).After-rounding-add, room (goal.at.rows2-requires c).Start 1 (l (goal.at.rows2-requires c).Start) c.in-1.is refl)
+pub rows-requires : goal.rows-requires
+rows-requires c = (inl refl, room (goal.at.rows-requires c).Start 1 (l (goal.at.rows-requires c).Start) c.in-1.is refl)
 
-pub rows4-requires : goal.rows4-requires
-rows4-requires c = (amount (goal.at.rows4-requires c).After-rounding-add, room (goal.at.rows4-requires c).Start 2 4 c.in-2.is c.if-l-eq4.true)
+pub rows-requires-then-l-eq4 : goal.rows-requires-then-l-eq4
+rows-requires-then-l-eq4 c = (inr refl, room (goal.at.rows-requires-then-l-eq4 c).Start 2 4 c.in-2.is c.if-l-eq4.true)
 
-pub rows4-requires-else-l-eq4 : goal.rows4-requires-else-l-eq4
-rows4-requires-else-l-eq4 c = (amount (goal.at.rows4-requires-else-l-eq4 c).After-rounding-add, room (goal.at.rows4-requires-else-l-eq4 c).Start 2 (l (goal.at.rows4-requires-else-l-eq4 c).Start) c.in-2.is refl)
+pub rows-requires-else-l-eq4 : goal.rows-requires-else-l-eq4
+rows-requires-else-l-eq4 c = (inr refl, room (goal.at.rows-requires-else-l-eq4 c).Start 2 (l (goal.at.rows-requires-else-l-eq4 c).Start) c.in-2.is refl)
 
 pub rows8-requires : goal.rows8-requires
 rows8-requires c =
     let e : c.args.log ≡ 3 = omega (arith, c.requires.size-least, c.requires.size-most) in
-    ((amount (goal.at.rows8-requires c).After-rounding-add, rw (count (goal.at.rows8-requires c).Start) (groups-whole c.args.log2_line c.requires.line-most)), room (goal.at.rows8-requires c).Start 3 (l (goal.at.rows8-requires c).Start) e refl)
+    (rw (count (goal.at.rows8-requires c).Start) (groups-whole c.args.log2_line c.requires.line-most), room (goal.at.rows8-requires c).Start 3 (l (goal.at.rows8-requires c).Start) e refl)
 
 pub returns-in-1 : goal.returns-in-1
-returns-in-1 c = stored (goal.at.returns-in-1 c).Start _ 1 (l (goal.at.returns-in-1 c).Start) c.in-1.is refl c.rows2.ensures
+returns-in-1 c = stored (goal.at.returns-in-1 c).Start _ 1 (l (goal.at.returns-in-1 c).Start) c.in-1.is refl c.rows.ensures
 
 pub returns-then-l-eq4 : goal.returns-then-l-eq4
 returns-then-l-eq4 c =
-    stored (goal.at.returns-then-l-eq4 c).Start _ 2 4 c.in-2.is c.if-l-eq4.true c.rows4.ensures
+    stored (goal.at.returns-then-l-eq4 c).Start _ 2 4 c.in-2.is c.if-l-eq4.true c.rows-then-l-eq4.ensures
 
 pub returns-else-l-eq4 : goal.returns-else-l-eq4
 returns-else-l-eq4 c =
-    stored (goal.at.returns-else-l-eq4 c).Start _ 2 (l (goal.at.returns-else-l-eq4 c).Start) c.in-2.is refl c.rows4-else-l-eq4.ensures
+    stored (goal.at.returns-else-l-eq4 c).Start _ 2 (l (goal.at.returns-else-l-eq4 c).Start) c.in-2.is refl c.rows-else-l-eq4.ensures
 
 pub returns-in_default : goal.returns-in_default
 returns-in_default c =

@@ -31,16 +31,16 @@ abbrev known : After-clip16-arg-1 → ℕ → Known
 known c =
     let k = c.loop-k.k in
     env (
-    small w64 (get_or c.args.y.now k (pos 0)) 17592186044416 (record { bound = c.requires.0.1.small k c.loop-k-test.true }) tt
-    ∷ small w64 c.args.add 2147483648 (subst (Within 2147483648) (sym c.requires.0.0.is) (rounding-within c.args.shift c.requires.0.0.most)) tt
+    small w64 (get_or c.args.y.now k (pos 0)) 17592186044416 (record { bound = c.requires.0.small k c.loop-k-test.true }) tt
+    ∷ small w64 c.args.r.add 2147483648 (subst (Within 2147483648) (sym c.args.r.amount.is) (rounding-within c.args.r.shift c.args.r.amount.most)) tt
     ∷ []
     )
 
 pub overflow_add-y : goal.overflow_add-y
-overflow_add-y c = fit (known c) w64 (add (var 0) (var 1)) tt
+overflow_add-y c = fit (known (goal.at.overflow_add-y c).After-clip16-arg-1) w64 (add (var 0) (var 1)) tt
 
 pub overflow_shr-y : goal.overflow_shr-y
-overflow_shr-y c = omega (arith, c.requires.0.0.most)
+overflow_shr-y c = omega (arith, c.args.r.amount.most)
 
 pub overflow_mul-j : goal.overflow_mul-j
 overflow_mul-j c = omega (arith, c.requires.1.1)
@@ -66,8 +66,8 @@ loop-k-preserved c =
       omega arith,
       next_more (to_z w16 (of_z w16 c.clip16.result)) c.loop-k.invariant.1
           (back w16 c.clip16.result c.clip16.type_inv ∙ c.clip16.ensures
-          ∙ ap clip16 (reads (known (goal.at.loop-k-preserved c).After-clip16-arg-1) (loc w64 (shr (loc w64 (add (var 0) (var 1))) c.args.shift)) tt)
-          ∙ ap (λ (r : ℤ). clip16 (shr_z (get_or c.args.y.now k (pos 0) +ℤ r) (2 ^ c.args.shift))) c.requires.0.0.is),
+          ∙ ap clip16 (reads (known (goal.at.loop-k-preserved c).After-clip16-arg-1) (loc w64 (shr (loc w64 (add (var 0) (var 1))) c.args.r.shift)) tt)
+          ∙ ap (λ (r : ℤ). clip16 (shr_z (get_or c.args.y.now k (pos 0) +ℤ r) (2 ^ c.args.r.shift))) c.args.r.amount.is),
     )
 
 pub shape_of-dst : goal.shape_of-dst
@@ -76,5 +76,5 @@ shape_of-dst c = c.loop-k.invariant.1.long
 pub returns : goal.returns
 returns c =
     let a = c.args in
-    subst (λ (k : ℕ). Next a.dst.now c.loop-k.dst (a.j * a.n) k (λ i. shifted a.shift (get_or a.y.now i (pos 0))))
+    subst (λ (k : ℕ). Next a.dst.now c.loop-k.dst (a.j * a.n) k (λ i. shifted a.r.shift (get_or a.y.now i (pos 0))))
     (omega arith) c.loop-k.invariant.1

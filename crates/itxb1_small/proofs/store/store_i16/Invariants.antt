@@ -6,7 +6,7 @@ use Rattle.itx_halving.specs.Lines.{shifted, Next}
 use Rattle.itxb1_small.proofs.store.store_i16.Given as goal
 
 abbrev pub invariant-loop-k : goal.invariant-loop-k
-invariant-loop-k l = (l.k ≤ l.n) × Next l.initial.dst l.dst (l.j * l.n) l.k (λ i. shifted l.shift (get_or l.y i (pos 0)))
+invariant-loop-k l = (l.k ≤ l.n) × Next l.initial.dst l.dst (l.j * l.n) l.k (λ i. shifted l.r.shift (get_or l.y i (pos 0)))
 
 abbrev pub decreases-loop-k : goal.decreases-loop-k
 decreases-loop-k l = l.n - l.k
