@@ -57,7 +57,7 @@ unfolding stage_one_at
 loop-j-preserved g c =
     let a = c.args in
     elim c.match-this.branch [
-      in-2 w ↦ more a.src.now a.dst.now c.loop-j.dst a.l c.loop-j.j g.row.N 2 w.in-2.is c.loop-j.invariant c.loop-j-test.true _ _ w.dst-is
+      | in-2 w ↦ more a.src.now a.dst.now c.loop-j.dst a.l c.loop-j.j g.row.N 2 w.in-2.is c.loop-j.invariant c.loop-j-test.true _ _ w.dst-is
           (rowed clip32 (built-in-same 1 (omega arith) _ c.table-t.ensures) w.line2.ensures w.store_i32.ensures)
       | in-4 w ↦ more a.src.now a.dst.now c.loop-j.dst a.l c.loop-j.j g.row.N 4 w.in-4.is c.loop-j.invariant c.loop-j-test.true _ _ w.dst-is
           (rowed clip32 (built-in-same 2 (omega arith) _ c.table-t.ensures) (held w32 (4 * narrow) tt _ w.line4-e.ensures) w.store_i32-in-4.ensures)
