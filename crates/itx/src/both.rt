@@ -6,30 +6,22 @@ ghost use Rattle.evc.specs.Stages.{itxb0_exit, itxb1_exit};
 ghost use Rattle.itx.specs.Both.{through, both_exit};
 
 // Both stages, with a block between them. Stage one has the size height and width lines, stage two the size width and height lines.
+// A stage that refuses leaves what it would write, which is all that is said of it here, so no answer is told.
 fn stages_over(part: &mut [i16], between: &mut [i32], log2_w: usize, log2_h: usize, shift: u8)
     ensures { part.new ≡ itxb1_exit log2_w log2_h shift (itxb0_exit log2_h log2_w part.old between.old) part.old }
 {
-    crate::stage_one::itxb0(&part[..], &mut between[..], log2_h, log2_w);
-    crate::stage_two::itxb1(&between[..], &mut part[..], log2_w, log2_h, shift);
+    let _ = crate::stage_one::itxb0(&part[..], &mut between[..], log2_h, log2_w);
+    let _ = crate::stage_two::itxb1(&between[..], &mut part[..], log2_w, log2_h, shift);
 }
 
-// The block between the stages is as long as the area: cut from the smallest of four that is enough. The two large ones have a function each, so
-// that they lie in the same place of the stack.
-fn middle(part: &mut [i16], log2_w: usize, log2_h: usize, shift: u8)
-    requires { length part.old ≤ 1024 }
+// The block between the stages is as long as the area: cut from one of N numbers. The size is a const parameter, so that each has a function of its own,
+// and the large ones lie in the same place of the stack.
+fn with_block<const N: usize>(part: &mut [i16], log2_w: usize, log2_h: usize, shift: u8)
+    requires { (length part.old ≤ N) × (N ≤ 4096) }
     ensures { part.new ≡ through log2_w log2_h shift part.old }
 {
     let n = part.len();
-    let mut between = [0i32; 1024];
-    stages_over(&mut part[..], &mut between[..n], log2_w, log2_h, shift);
-}
-
-fn large(part: &mut [i16], log2_w: usize, log2_h: usize, shift: u8)
-    requires { length part.old ≤ 4096 }
-    ensures { part.new ≡ through log2_w log2_h shift part.old }
-{
-    let n = part.len();
-    let mut between = [0i32; 4096];
+    let mut between = [0i32; N];
     stages_over(&mut part[..], &mut between[..n], log2_w, log2_h, shift);
 }
 
@@ -39,14 +31,12 @@ pub fn both_stages(part: &mut [i16], log2_w: usize, log2_h: usize, shift: u8)
 {
     let n = part.len();
     if n <= 16 {
-        let mut between = [0i32; 16];
-        stages_over(part, &mut between[..n], log2_w, log2_h, shift);
+        with_block::<16>(part, log2_w, log2_h, shift);
     } else if n <= 64 {
-        let mut between = [0i32; 64];
-        stages_over(part, &mut between[..n], log2_w, log2_h, shift);
+        with_block::<64>(part, log2_w, log2_h, shift);
     } else if n <= 1024 {
-        middle(part, log2_w, log2_h, shift);
+        with_block::<1024>(part, log2_w, log2_h, shift);
     } else if n <= 4096 {
-        large(part, log2_w, log2_h, shift);
+        with_block::<4096>(part, log2_w, log2_h, shift);
     }
 }

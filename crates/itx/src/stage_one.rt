@@ -6,27 +6,32 @@ ghost use Rattle.evc.specs.Answers.{answer_number};
 ghost use Rattle.evc.specs.Stages.{stage_one_number, itxb0_exit};
 ghost use Rattle.itx_halving.specs.Taken.{takes_one};
 
-use evc::Answer;
-use itx_halving::{by_tests, by_value, stage_one};
+use evc::Refusal;
+use itx_halving::{by_value, stage_one};
 
 // What `itxb0_small` does not do. It is called in two places: compilers inline what has one caller, and a small call would pay for the buffers of the
 // large ones.
-fn large(src: &[i16], dst: &mut [i32], log2_size: usize, log2_line: usize) -> Answer
+fn large(src: &[i16], dst: &mut [i32], log2_size: usize, log2_line: usize) -> Result<(), Refusal>
     requires { takes_one 1 3 0 log2_size log2_line src.now dst.old ≡ false }
     ensures answer { answer_number result ≡ stage_one_number (length src.now) (length dst.old) log2_size log2_line }
     ensures exit { dst.new ≡ itxb0_exit log2_size log2_line src.now dst.old }
 {
     if itxb0_blocks::itxb0(src, dst, log2_size, log2_line) {
-        return Answer::Done;
+        return Ok(());
     }
     if itx_lines::itxb0(src, dst, log2_size, log2_line) {
-        return Answer::Done;
+        return Ok(());
     }
-    by_tests(stage_one(src.len(), dst.len(), log2_size, log2_line))
+    stage_one(src.len(), dst.len(), log2_size, log2_line)
 }
 
 // Stage one of size 2^log2_size on 2^log2_line lines.
-pub fn itxb0(src: &[i16], dst: &mut [i32], log2_size: usize, log2_line: usize) -> Answer
+pub fn itxb0(
+    src: &[i16],
+    dst: &mut [i32],
+    log2_size: usize,
+    log2_line: usize,
+) -> Result<(), Refusal>
     ensures answer { answer_number result ≡ stage_one_number (length src.now) (length dst.old) log2_size log2_line }
     ensures exit { dst.new ≡ itxb0_exit log2_size log2_line src.now dst.old }
 {
@@ -34,7 +39,7 @@ pub fn itxb0(src: &[i16], dst: &mut [i32], log2_size: usize, log2_line: usize) -
         return by_value(large(&src[..], dst, log2_size, log2_line));
     }
     if itxb0_small::itxb0(src, dst, log2_size, log2_line) {
-        return Answer::Done;
+        return Ok(());
     }
     by_value(large(&src[..], dst, log2_size, log2_line))
 }

@@ -40,4 +40,4 @@ returns c =
     let n =
     subst (λ (d : List ℤ). takes_one 4 6 0 c.args.log2_size c.args.log2_line c.args.src.now d ≡ false) (first-left (goal.at.returns c).Else-itxb0)
     (not-taken-is 4 6 0 c.args.log2_size c.args.log2_line (number c.args.src.now c.args.log2_size c.args.log2_line) (exit c.args.src.now c.args.log2_size c.args.log2_line) c.itxb0-2.result _ c.itxb0-2.ensures.did c.itxb0-2.ensures.exit c.if-itxb0-2.false) in
-    record { answer = subst (λ (d : List ℤ). answer_number c.by_tests.result ≡ number c.args.src.now c.args.log2_size c.args.log2_line d) d (c.by_tests.ensures ∙ c.stage_one.ensures); exit = d ∙ one-nobody c.args.log2_size c.args.log2_line c.args.src.now c.args.dst.now c.requires n }
+    record { answer = subst (λ (d : List ℤ). answer_number c.stage_one.result ≡ number c.args.src.now c.args.log2_size c.args.log2_line d) d c.stage_one.ensures; exit = d ∙ one-nobody c.args.log2_size c.args.log2_line c.args.src.now c.args.dst.now c.requires n }

@@ -40,4 +40,4 @@ returns c =
     let n =
     subst (λ (d : List ℤ). takes_two 4 6 0 c.args.log2_size c.args.log2_line c.args.shift c.args.src.now d ≡ false) (first-left (goal.at.returns c).Else-itxb1)
     (not-taken-is 4 6 0 c.args.log2_size c.args.log2_line (number c.args.src.now c.args.log2_size c.args.log2_line c.args.shift) (exit c.args.src.now c.args.log2_size c.args.log2_line c.args.shift) c.itxb1-2.result _ c.itxb1-2.ensures.did c.itxb1-2.ensures.exit c.if-itxb1-2.false) in
-    record { answer = subst (λ (d : List ℤ). answer_number c.by_tests.result ≡ number c.args.src.now c.args.log2_size c.args.log2_line c.args.shift d) d (c.by_tests.ensures ∙ c.stage_two.ensures); exit = d ∙ two-nobody c.args.log2_size c.args.log2_line c.args.src.now c.args.dst.now c.args.shift c.requires n }
+    record { answer = subst (λ (d : List ℤ). answer_number c.stage_two.result ≡ number c.args.src.now c.args.log2_size c.args.log2_line c.args.shift d) d c.stage_two.ensures; exit = d ∙ two-nobody c.args.log2_size c.args.log2_line c.args.src.now c.args.dst.now c.args.shift c.requires n }
