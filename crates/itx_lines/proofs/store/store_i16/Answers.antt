@@ -9,42 +9,15 @@ use mir.Syntax.{w16, w64}
 use mir.Val.{SFits, to_z, of_z}
 use mir.Facts.{to_z-of_z}
 use Rattle.itx_halving.specs.Lines.{shifted, Next}
-use Rattle.itx_halving.proofs.Lines.{next-none, next_more}
+use Rattle.itx_halving.proofs.Lines.{next_more}
 use Rattle.integers.proofs.Bits.{back}
 use Rattle.itx_lines.proofs.store.store_i16.Goals as goal
-
-pub loop-k-init : goal.loop-k-init
-loop-k-init c = (omega arith, next-none)
-
-pub offset_bounds-e-k : goal.offset_bounds-e-k
-offset_bounds-e-k c = omega (arith, c.requires.1.0)
-
-pub bounds-e-k : goal.bounds-e-k
-bounds-e-k c = omega (arith, c.requires.1.0)
 
 pub rounded-requires : goal.rounded-requires
 rounded-requires c =
     let k = c.loop-k.k in
     let fe : SFits w64 (get_or c.args.e.now k (pos 0)) = sfits_of c.rounded-arg-1.given in
     rw (to_z-of_z fe) (c.requires.0.small k c.loop-k-test.true)
-
-pub overflow_mul-j : goal.overflow_mul-j
-overflow_mul-j c = omega (arith, c.requires.1.1)
-
-pub overflow_add-j : goal.overflow_add-j
-overflow_add-j c = omega (arith, c.requires.1.1)
-
-pub offset_bounds-dst-j : goal.offset_bounds-dst-j
-offset_bounds-dst-j c = omega (arith, c.requires.1.1)
-
-pub bounds-dst-j : goal.bounds-dst-j
-bounds-dst-j c = omega (arith, c.requires.1.1, c.loop-k.invariant.1.long)
-
-pub overflow_step-k : goal.overflow_step-k
-overflow_step-k c = omega arith
-
-pub loop-k-smaller : goal.loop-k-smaller
-loop-k-smaller c = omega arith
 
 pub loop-k-preserved : goal.loop-k-preserved
 loop-k-preserved c =
@@ -54,9 +27,6 @@ loop-k-preserved c =
       next_more (to_z w16 (of_z w16 c.rounded.result)) c.loop-k.invariant.1
           (back w16 c.rounded.result c.rounded.type_inv ∙ c.rounded.ensures ∙ ap (shifted c.args.r.shift) (to_z-of_z fe)),
     )
-
-pub shape_of-dst : goal.shape_of-dst
-shape_of-dst c = c.loop-k.invariant.1.long
 
 pub returns : goal.returns
 returns c =

@@ -14,7 +14,7 @@ use Rattle.evc.specs.Stages.{rounding}
 use Rattle.itx_halving.specs.Lines.{Amount}
 use Rattle.itx_halving.specs.Line.{rows}
 use Rattle.itx_halving.proofs.Instance.{built-in-table, built-in-same}
-use Rattle.itx_halving.proofs.Lines.{next-ext, rounding-within, upto-none, upto-room, upto-more, upto_all}
+use Rattle.itx_halving.proofs.Lines.{next-ext, rounding-within, upto-none, upto-room, upto-more}
 use Rattle.itx_halving.proofs.Rows.{reach-at, same_sum}
 use Rattle.itxb1_small.proofs.Quotients.{kept_at}
 use Rattle.itxb1_small.proofs.eight.rows.Goals as goal
@@ -26,9 +26,6 @@ handed add shift a =
 
 pub loop-j-init : goal.loop-j-init
 loop-j-init c = upto-none (omega (arith, c.requires.few, c.requires.z-room))
-
-pub overflow_add-j0 : goal.overflow_add-j0
-overflow_add-j0 c = omega (arith, c.requires.among, c.loop-j-test.true)
 
 pub line8-y-requires : goal.line8-y-requires
 line8-y-requires c =
@@ -52,12 +49,6 @@ store_quotients-requires c =
       ),
     )
 
-pub overflow_step-j : goal.overflow_step-j
-overflow_step-j c = omega (arith, c.loop-j-test.true)
-
-pub loop-j-smaller : goal.loop-j-smaller
-loop-j-smaller c = omega (arith, c.loop-j-test.true)
-
 pub loop-j-preserved : goal.loop-j-preserved
 loop-j-preserved c =
     upto-more c.loop-j.invariant c.loop-j-test.true
@@ -66,9 +57,3 @@ loop-j-preserved c =
     let e = same_sum (rows c.table-t.result 512) (tm 8) 8 c.args.l (c.args.j0 + c.loop-j.j) k c.args.src.now (built-in-same 3 (omega arith) _ c.table-t.ensures) h in
     ap (λ (z : ℤ). clip32 (floor_pow z c.args.r.shift)) (c.line8-y.ensures.at k h ∙ ap₂ ◌+ℤ◌ e (handed c.args.r.add c.args.r.shift c.args.r.amount))
     ∙ kept_at c.args.l c.args.r.shift c.args.src.now c.args.j0 c.loop-j.j k h))
-
-pub shape_of-z : goal.shape_of-z
-shape_of-z c = c.loop-j.invariant.long
-
-pub returns : goal.returns
-returns c = upto_all c.loop-j.invariant c.loop-j-test.false

@@ -44,9 +44,6 @@ turn i m = let p : (i + 1) * m ≡ i * m + m = omega arith in omega arith
 same : (i m n l : ℕ) (G : ℕ → ℤ) (d₀ : List ℤ) {d : List ℤ} → i ≤ n → n * m ≡ l → 8 * l ≤ length d₀ → d ≡ written (i * m * 8) G d₀ → length d ≡ length d₀
 same i m n l G d₀ h e r p = ap length p ∙ written-length (i * m * 8) G d₀ (omega (arith, among i m n l h e))
 
-pub overflow_add-n : goal.overflow_add-n
-overflow_add-n c = omega (arith, c.requires.1.src-room)
-
 pub loop-i-init : goal.loop-i-init
 loop-i-init c =
     let m = smaller c.args.l c.min-m.result c.min-m.ensures in
@@ -54,12 +51,6 @@ loop-i-init c =
       (ap (λ (m : ℕ). (c.args.l + 7) / 8 * m) m ∙ c.requires.0, rw m (group-most c.args.l)),
       (omega arith, written_count 0 _ (left (goal.at.loop-i-init c).Start) d d (omega arith) (written_none (left (goal.at.loop-i-init c).Start) d)),
     )
-
-pub overflow_mul-i : goal.overflow_mul-i
-overflow_mul-i c =
-    let m = c.min-m.result in
-    let h = among c.loop-i.i m _ c.args.l c.loop-i.invariant.1.0 c.loop-i.invariant.0.0 in
-    omega (arith, c.requires.1.src-room)
 
 pub group-requires : goal.group-requires
 group-requires c =
@@ -75,12 +66,6 @@ group-requires c =
         },
       ),
     )
-
-pub overflow_step-i : goal.overflow_step-i
-overflow_step-i c = omega (arith, c.loop-i-test.true)
-
-pub loop-i-smaller : goal.loop-i-smaller
-loop-i-smaller c = omega (arith, c.loop-i-test.true)
 
 pub loop-i-preserved : goal.loop-i-preserved
 loop-i-preserved c =

@@ -11,7 +11,7 @@ use mir.Val.{to_z, of_z}
 use Rattle.integers.specs.Z.{clip16}
 use Rattle.integers.proofs.Expr.{var, loc, Known, arg, env, fit, reads}
 use Rattle.itx_halving.specs.Lines.{Next}
-use Rattle.itx_halving.proofs.Lines.{next-none, next_more}
+use Rattle.itx_halving.proofs.Lines.{next_more}
 use Rattle.integers.proofs.Bits.{back}
 use Rattle.itxb1_small.proofs.store.store_clipped.Goals.{After-clip16-arg-1}
 use Rattle.itxb1_small.proofs.store.store_clipped.Goals as goal
@@ -20,32 +20,8 @@ use Rattle.itxb1_small.proofs.store.store_clipped.Goals as goal
 abbrev known : After-clip16-arg-1 → ℕ → Known
 known c = env (arg w32 (get_or c.args.z.now c.loop-i.i (pos 0)) (sfits_of c.clip16-arg-1.given) ∷ [])
 
-pub loop-i-init : goal.loop-i-init
-loop-i-init c = (omega arith, next-none)
-
-pub offset_bounds-z-i : goal.offset_bounds-z-i
-offset_bounds-z-i c = omega (arith, c.requires.0)
-
-pub bounds-z-i : goal.bounds-z-i
-bounds-z-i c = omega (arith, c.requires.0)
-
 pub overflow_cast-z : goal.overflow_cast-z
 overflow_cast-z c = fit (known c) w64 (var 0) tt
-
-pub overflow_add-at : goal.overflow_add-at
-overflow_add-at c = omega (arith, c.requires.1)
-
-pub offset_bounds-dst-at : goal.offset_bounds-dst-at
-offset_bounds-dst-at c = omega (arith, c.requires.1)
-
-pub bounds-dst-at : goal.bounds-dst-at
-bounds-dst-at c = omega (arith, c.requires.1, c.loop-i.invariant.1.long)
-
-pub overflow_step-i : goal.overflow_step-i
-overflow_step-i c = omega arith
-
-pub loop-i-smaller : goal.loop-i-smaller
-loop-i-smaller c = omega arith
 
 pub loop-i-preserved : goal.loop-i-preserved
 loop-i-preserved c = (
@@ -53,9 +29,6 @@ loop-i-preserved c = (
   next_more (to_z w16 (of_z w16 c.clip16.result)) c.loop-i.invariant.1
       (back w16 c.clip16.result c.clip16.type_inv ∙ c.clip16.ensures ∙ ap clip16 (reads (known (goal.at.loop-i-preserved c).After-clip16-arg-1) (loc w64 (var 0)) tt)),
 )
-
-pub shape_of-dst : goal.shape_of-dst
-shape_of-dst c = c.loop-i.invariant.1.long
 
 pub returns : goal.returns
 returns c =

@@ -12,16 +12,10 @@ use Rattle.itx_halving.specs.Lines.{shifted, Next}
 use Rattle.integers.specs.Z.{clip16}
 use Rattle.integers.proofs.Bound.{Within}
 use Rattle.integers.proofs.Expr.{var, add, shr, loc, Known, small, env, fit, reads}
-use Rattle.itx_halving.proofs.Lines.{next-none, next_more, rounding-within}
+use Rattle.itx_halving.proofs.Lines.{next_more, rounding-within}
 use Rattle.integers.proofs.Bits.{back}
 use Rattle.itxb1_small.proofs.store.store_i16.Goals.{After-clip16-arg-1}
 use Rattle.itxb1_small.proofs.store.store_i16.Goals as goal
-
-pub loop-k-init : goal.loop-k-init
-loop-k-init c = (omega arith, next-none)
-
-pub offset_bounds-y-k : goal.offset_bounds-y-k
-offset_bounds-y-k c = omega (arith, c.requires.1.0)
 
 pub bounds-y-k : goal.bounds-y-k
 bounds-y-k c = omega (arith, c.requires.1.0)
@@ -42,24 +36,6 @@ overflow_add-y c = fit (known (goal.at.overflow_add-y c).After-clip16-arg-1) w64
 pub overflow_shr-y : goal.overflow_shr-y
 overflow_shr-y c = omega (arith, c.args.r.amount.most)
 
-pub overflow_mul-j : goal.overflow_mul-j
-overflow_mul-j c = omega (arith, c.requires.1.1)
-
-pub overflow_add-j : goal.overflow_add-j
-overflow_add-j c = omega (arith, c.requires.1.1)
-
-pub offset_bounds-dst-j : goal.offset_bounds-dst-j
-offset_bounds-dst-j c = omega (arith, c.requires.1.1)
-
-pub bounds-dst-j : goal.bounds-dst-j
-bounds-dst-j c = omega (arith, c.requires.1.1, c.loop-k.invariant.1.long)
-
-pub overflow_step-k : goal.overflow_step-k
-overflow_step-k c = omega arith
-
-pub loop-k-smaller : goal.loop-k-smaller
-loop-k-smaller c = omega arith
-
 pub loop-k-preserved : goal.loop-k-preserved
 loop-k-preserved c =
     let k = c.loop-k.k in (
@@ -69,9 +45,6 @@ loop-k-preserved c =
           ∙ ap clip16 (reads (known (goal.at.loop-k-preserved c).After-clip16-arg-1) (loc w64 (shr (loc w64 (add (var 0) (var 1))) c.args.r.shift)) tt)
           ∙ ap (λ (r : ℤ). clip16 (shr_z (get_or c.args.y.now k (pos 0) +ℤ r) (2 ^ c.args.r.shift))) c.args.r.amount.is),
     )
-
-pub shape_of-dst : goal.shape_of-dst
-shape_of-dst c = c.loop-k.invariant.1.long
 
 pub returns : goal.returns
 returns c =
