@@ -14,6 +14,7 @@ fn multiples(n: usize, w: usize, h: usize) -> bool
 }
 
 // The side of a block's tiles: the largest that fits both sides.
+#[tactic(auto, unfolding(evc::specs::Tiles::tile_side))]
 pub fn side(w: usize, h: usize) -> usize
     ensures { result ≡ of.tile_side w h }
 {
@@ -26,23 +27,14 @@ pub fn side(w: usize, h: usize) -> usize
     2
 }
 
-// A tile's sum: a quarter of the DC's size, and the other sizes.
-fn sum(others: u32, dc: u32) -> u64
-    ensures { result ≡ others + dc / 4 }
+// The number of a tile of N by N: a quarter of the DC's size and the other sizes, added, and rounded by the side.
+pub fn number<const N: usize>(others: u32, dc: u32) -> u64
+    ensures { result ≡ of.rounded N (others + dc / 4) }
 {
-    (others as u64) + ((dc / 4) as u64)
-}
-
-// The number of an 8 by 8 tile.
-pub fn number_8(others: u32, dc: u32) -> u32
-    ensures { result ≡ of.rounded 8 (others + dc / 4) }
-{
-    ((sum(others, dc) + 2) / 4) as u32
-}
-
-// The number of a 4 by 4 tile.
-pub fn number_4(others: u32, dc: u32) -> u32
-    ensures { result ≡ of.rounded 4 (others + dc / 4) }
-{
-    ((sum(others, dc) + 1) / 2) as u32
+    let sum = (others as u64) + ((dc / 4) as u64);
+    match N {
+        8 => (sum + 2) / 4,
+        4 => (sum + 1) / 2,
+        _ => sum,
+    }
 }

@@ -109,3 +109,7 @@ signed-size x a j = abs-mul x (sign a j) ∙ rw (pow-size (ones (bit_and a j))) 
 pub line-within : (B n : ℕ) (x : ℕ → ℤ) (b : ℕ) → ((i : ℕ) → nat_abs (x i) ≤ B) → nat_abs (line n x b) ≤ n * B
 unfolding line
 line-within B n x b h = (within-sum n B (λ i. x i *ℤ sign b i) (λ i p. record { bound = rw (signed-size (x i) b i) (h i) })).bound
+
+pub whole-within : (B n : ℕ) (x : List ℤ) → RowWithin B x → RowWithin (n * B) (whole_line n x)
+unfolding whole_line
+whole-within B n x h = took-within n (n * B) (tab n (line n (place x))) (line n (place x)) refl (λ b. line-within B n (place x) b h)

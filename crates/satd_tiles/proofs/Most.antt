@@ -11,6 +11,15 @@ use Rattle.integers.proofs.Sum.{within-sum, sum-le}
 use Rattle.evc.specs.Tiles.{sign, coefficient, share, rounded, tile_sum, tile_number}
 use Rattle.satd_tiles.proofs.Lines.{signed-size}
 
+-- the number is at most the sum
+pub rounded-le : (n s : ℕ) → rounded n s ≤ s
+rounded-le n s = go (eqb n 8) (eqb n 4)
+  where
+    go : (x y : Bool) → cond x ((s + 2) / 4) (cond y ((s + 1) / 2) s) ≤ s
+    go true y = omega arith
+    go false true = omega arith
+    go false false = omega arith
+
 module _ (n B : ℕ) (d : ℕ → ℕ → ℤ) (h : (j i : ℕ) → j < n → i < n → nat_abs (d j i) ≤ B) where
   coefficient-most : (a b : ℕ) → nat_abs (coefficient n d a b) ≤ n * (n * B)
   unfolding coefficient
@@ -31,14 +40,6 @@ module _ (n B : ℕ) (d : ℕ → ℕ → ℤ) (h : (j i : ℕ) → j < n → i 
       (λ a p. sum-le n (n * (n * B)) (λ b. share a b (nat_abs (coefficient n d a b)))
       (λ b q. le_trans (share-le a b (nat_abs (coefficient n d a b))) (coefficient-most a b)))
 
-  rounded-le : (s : ℕ) → rounded n s ≤ s
-  rounded-le s = go (eqb n 8) (eqb n 4)
-    where
-      go : (x y : Bool) → cond x ((s + 2) / 4) (cond y ((s + 1) / 2) s) ≤ s
-      go true y = omega arith
-      go false true = omega arith
-      go false false = omega arith
-
   pub number-most : tile_number n d ≤ n * (n * (n * (n * B)))
   unfolding tile_number
-  number-most = le_trans (rounded-le (tile_sum n d)) sum-most
+  number-most = le_trans (rounded-le n (tile_sum n d)) sum-most

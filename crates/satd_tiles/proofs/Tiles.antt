@@ -1,8 +1,9 @@
--- Two passes give the tile's coefficients (`two-passes`; the rows added first, turned: `rows-columns`), and their sizes the tile's sum (`shares`,
--- `shares-by-rows`), of any side. Assumes nothing.
+-- Two passes, of which the first adds the rows and the second turns the block, give the tile's coefficients (`rows-columns`), and their sizes the
+-- tile's sum (`shares`), of any side. Assumes nothing.
 use mathlib.Core.Path.{◌≡◌, sym, ap, ◌∙◌}
 use mathlib.Core.List.{List, []}
-use Prim.Native.Nat.{ℕ, suc, ◌+◌, ◌*◌, ◌/◌, ◌≤◌, ◌<◌, zero-le}
+use Prim.Native.Nat.{ℕ, zero, suc, ◌+◌, ◌*◌, ◌/◌, ◌≤◌, ◌<◌, zero-le}
+use native.Mathlib.Nat.{not-suc-le-zero}
 use native.Mathlib.Decide.{dec_lt}
 use native.Mathlib.Omega.{arith}
 use lib.ListN.{get_or, get_or-eq_default}
@@ -52,12 +53,6 @@ line-line n d a b =
     (λ j p. sym (sum-times n (sign a j) (λ i. d j i *ℤ sign b i))
     ∙ sum-ext addition_z+ n (λ i. d j i *ℤ sign b i *ℤ sign a j) (λ i. d j i *ℤ sign a j *ℤ sign b i) (λ i q. turn (d j i) (sign b i) (sign a j)))
 
-two-passes : (n : ℕ) (d : List (List ℤ)) (a b : ℕ) → a < n → b < n → entry (passed n (passed n d)) a b ≡ coefficient n (entry d) a b
-two-passes n d a b p q =
-    passed-at n (passed n d) a b p q
-    ∙ line-ext n (entry (passed n d) b) (λ j. line n (entry d j) b) a (λ j r. passed-at n d b j q r)
-    ∙ line-line n (entry d) a b
-
 -- ---- the rows added first: then the column pass leaves the coefficients turned
 pub rows-passed-within : (n B : ℕ) (m : List (List ℤ)) → BlockWithin B m → BlockWithin (n * B) (rows_passed n m)
 unfolding rows_passed
@@ -85,13 +80,6 @@ pub row-most : (n B : ℕ) (x : List ℤ) → RowWithin B x → row_sizes n x �
 unfolding row_sizes
 row-most n B x h = sum-le n B (λ i. nat_abs (place x i)) (λ i p. h i)
 
-sizes-are : (n : ℕ) (d : List (List ℤ)) → block_sizes n (passed n (passed n d)) ≡ sum_n n (λ a. sum_n n (λ b. nat_abs (coefficient n (entry d) a b)))
-unfolding block_sizes row_sizes
-sizes-are n d =
-    sum-ext addition_n+ n (λ a. row_sizes n (get_or (passed n (passed n d)) a [])) (λ a. sum_n n (λ b. nat_abs (coefficient n (entry d) a b)))
-    (λ a p. sum-ext addition_n+ n (λ b. nat_abs (entry (passed n (passed n d)) a b)) (λ b. nat_abs (coefficient n (entry d) a b))
-    (λ b q. ap nat_abs (two-passes n d a b p q)))
-
 sizes-turned : (n : ℕ) (d : List (List ℤ)) → block_sizes n (passed n (rows_passed n d)) ≡ sum_n n (λ a. sum_n n (λ b. nat_abs (coefficient n (entry d) a b)))
 unfolding block_sizes row_sizes
 sizes-turned n d =
@@ -111,24 +99,18 @@ quarter n f =
     let e = sum_first addition_n+ n (f 0) in
     (omega arith, omega arith)
 
--- a tile d by the code, whose first pass is `pass`: the passes m and c, the sum of all sizes, and the DC's size
-pub record ByPasses (n : ℕ) (pass : List (List ℤ) → List (List ℤ)) (d m c : List (List ℤ)) (all dc : ℕ) : Type 0 where
-  pub rows : m ≡ pass d
+-- a tile d by the code: the passes m and c, the sum of all sizes, and the DC's size
+pub record ByPasses (n : ℕ) (d m c : List (List ℤ)) (all dc : ℕ) : Type 0 where
+  pub rows : m ≡ rows_passed n d
   pub columns : c ≡ passed n m
   pub total : all ≡ block_sizes n c
   pub first : dc ≡ nat_abs (entry c 0 0)
 
--- it has the tile's sum: by two passes that turn, and with the rows added first
-pub shares : {n all dc : ℕ} {d m c : List (List ℤ)} → ByPasses (suc n) (passed (suc n)) d m c all dc → (tile_sum (suc n) (entry d) + dc ≡ all + dc / 4) × (dc ≤ all)
+-- it has the tile's sum
+pub shares : {n all dc : ℕ} {d m c : List (List ℤ)} → 1 ≤ n → ByPasses n d m c all dc → (tile_sum n (entry d) + dc ≡ all + dc / 4) × (dc ≤ all)
 unfolding tile_sum
-shares {n} {all} {dc} {d} {m} {c} t =
-    let e : c ≡ passed (suc n) (passed (suc n) d) = t.columns ∙ ap (passed (suc n)) t.rows in
-    rw (t.total, t.first, e, sizes-are (suc n) d, two-passes (suc n) d 0 0 (omega arith) (omega arith))
-    (quarter n (λ a b. nat_abs (coefficient (suc n) (entry d) a b)))
-
-pub shares-by-rows : {n all dc : ℕ} {d m c : List (List ℤ)} → ByPasses (suc n) (rows_passed (suc n)) d m c all dc → (tile_sum (suc n) (entry d) + dc ≡ all + dc / 4) × (dc ≤ all)
-unfolding tile_sum
-shares-by-rows {n} {all} {dc} {d} {m} {c} t =
+shares {n = zero} h t = absurd (not-suc-le-zero h)
+shares {n = suc n} {d = d} {c = c} h t =
     let e : c ≡ passed (suc n) (rows_passed (suc n) d) = t.columns ∙ ap (passed (suc n)) t.rows in
     rw (t.total, t.first, e, sizes-turned (suc n) d, rows-columns (suc n) d 0 0 (omega arith) (omega arith))
     (quarter n (λ a b. nat_abs (coefficient (suc n) (entry d) a b)))

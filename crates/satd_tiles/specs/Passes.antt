@@ -1,4 +1,4 @@
--- The passes of a tile, as the contracts of src/had_8x8.rt and src/had_4x4.rt cite them; of any side n. A block is the list of its rows. A
+-- The passes of a tile, as the contracts of src/ cite them; of any side n. A block is the list of its rows. A
 -- tile's coefficients and its number are evc's (specs/Tiles.antt). Assumes nothing.
 use Rattle.std.specs.Prelude.{◌≡◌, ℕ, zero, suc, ◌+◌, ◌≤◌, List, [], get_or, set, ℤ, pos, ◌*ℤ◌, nat_abs}
 use Rattle.integers.specs.Lists.{tab}
@@ -34,10 +34,6 @@ abbrev pub puts : {A : Type 0} → (ℕ → A) → ℕ → List (List A) → ℕ
 puts v j m zero = m
 puts v j m (suc k) = put k j (v k) (puts v j m k)
 
--- with v 0, .., v 3 in column j of rows b, .., b + 3
-abbrev pub four : {A : Type 0} → (ℕ → A) → ℕ → ℕ → List (List A) → List (List A)
-four v b j m = put (b + 3) j (v 3) (put (b + 2) j (v 2) (put (b + 1) j (v 1) (put b j (v 0) m)))
-
 -- one pass: each row becomes its coefficients, and the block is turned: row b holds coefficient b of every row
 unfoldable pub passed : ℕ → List (List ℤ) → List (List ℤ)
 passed n m = tab n (λ b. tab n (λ j. line n (entry m j) b))
@@ -47,7 +43,7 @@ pub record Passed (n B : ℕ) (m r : List (List ℤ)) : Type 0 where
   pub is : r ≡ passed n m
   pub within : BlockWithin B r
 
--- the pass over the rows of a tile of 8 by 8: row a is the sum of all rows, each with its sign, so that each column becomes its coefficients
+-- the pass over the rows of a tile: row a is the sum of all rows, each with its sign, so that each column becomes its coefficients
 unfoldable pub rows_passed : ℕ → List (List ℤ) → List (List ℤ)
 rows_passed n m = tab n (λ a. tab n (λ i. line n (λ j. entry m j i) a))
 

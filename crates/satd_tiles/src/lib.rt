@@ -1,10 +1,8 @@
 // The tiles of SATD, each a total function of its block of differences: 8 by 8, 4 by 4, 2 by 2.
 #![tactic(auto)]
 
-mod had_2x2;
-mod had_4x4;
-mod had_8x8;
+mod had;
+mod line;
+mod passes;
 
-pub use had_2x2::evc_had_2x2;
-pub use had_4x4::evc_had_4x4;
-pub use had_8x8::evc_had_8x8;
+pub use had::{evc_had_2x2, evc_had_4x4, evc_had_8x8};
