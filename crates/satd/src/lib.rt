@@ -4,8 +4,6 @@
 mod any;
 mod satd;
 mod sums;
-mod tiles2;
-mod tiles4;
-mod tiles8;
+mod tiles;
 
 pub use satd::evce_satd_16b;

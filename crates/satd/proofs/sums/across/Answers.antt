@@ -1,79 +1,61 @@
 -- `satd::sums::across` meets its contract. Assumes nothing.
-use mathlib.Core.Path.{◌≡◌}
-use Prim.Native.Nat.{◌+◌, ◌*◌, ◌≤◌}
+use Rattle.std.proofs.Common.{◌≡◌, ◌+◌, ◌*◌, ◌≤◌, arith}
 use native.Mathlib.Nat.{mul-le-mul_right}
-use native.Mathlib.Omega.{arith}
 use Rattle.integers.proofs.Loop.{summed-start, summed-step, summed-end, summed-next}
 use Rattle.evc.specs.Tiles.{tile_number, tile}
 use Rattle.block_rows.specs.Small.{Tested, apart_from}
 use Rattle.satd.proofs.Tiling.{tile-most, tile-ends, side-count}
 use Rattle.satd.proofs.sums.Standing.{tested-columns, tile-is, side-some, one-tile}
+use Rattle.satd.proofs.sums.across.Given.{Over}
 use Rattle.satd.proofs.sums.across.Goals.{After-number, In-loop-u}
 use Rattle.satd.proofs.sums.across.Goals as goal
 
-pub nonzero_div-n : goal.nonzero_div-n
-nonzero_div-n c = omega (arith, side-some c.requires.side)
+pub nonzero_div-u-end : goal.nonzero_div-u-end
+nonzero_div-u-end g c = omega (arith, side-some g.met.T.Tile.side)
 
 pub loop-u-init : goal.loop-u-init
-loop-u-init c = summed-start
+loop-u-init g c = summed-start
 
 -- the tile stands inside both blocks
-ends : (c : In-loop-u) → let a = c.args in c.loop-u.u * a.side + a.side ≤ a.w
-ends c = let a = c.args in tile-ends a.side a.w c.loop-u.u c.loop-u-test.true
+ends : (g : Over) (c : In-loop-u g) → c.loop-u.u * g.row.N + g.row.N ≤ c.args.w
+ends g c = tile-ends g.row.N c.args.w c.loop-u.u c.loop-u-test.true
 
 stands :
-    (c : In-loop-u) →
+    (g : Over) (c : In-loop-u g) →
     let a = c.args in
-    let x = c.loop-u.u * a.side in Tested a.side a.side a.a.now (a.a_at + x) a.a_stride a.b.now (a.b_at + x) a.w
-stands c =
-    let a = c.args in
-    tested-columns c.requires.tested (c.loop-u.u * a.side) a.side (ends c)
+    let x = c.loop-u.u * g.row.N in Tested g.row.N g.row.N a.a.now (a.a_at + x) a.a_stride a.b.now (a.b_at + x) a.w
+stands g c = tested-columns c.requires (c.loop-u.u * g.row.N) g.row.N (ends g c)
 
 pub overflow_mul-x : goal.overflow_mul-x
-overflow_mul-x c = omega (arith, ends c, c.requires.tested.blocks.narrow)
+overflow_mul-x g c = omega (arith, ends g c, c.requires.blocks.narrow)
 
 pub overflow_add-a_at : goal.overflow_add-a_at
-overflow_add-a_at c = omega (arith, (stands c).blocks.one, c.well_formed)
+overflow_add-a_at g c = omega (arith, (stands g c).blocks.one, c.well_formed)
 
 pub overflow_add-b_at : goal.overflow_add-b_at
-overflow_add-b_at c = omega (arith, (stands c).blocks.two, c.well_formed)
+overflow_add-b_at g c = omega (arith, (stands g c).blocks.two, c.well_formed)
 
 pub number-requires : goal.number-requires
-number-requires c =
-    record { side = c.requires.side; tested = stands c }
-
-pub overflow_cast-sum : goal.overflow_cast-sum
-overflow_cast-sum c = omega (arith, c.number.type_inv)
+number-requires g c = stands g c
 
 -- the tile's number
 number :
-    (c : After-number) →
+    (g : Over) (c : After-number g) →
     let a = c.args in
-    c.number.result ≡ tile_number a.side (tile a.side (apart_from a.a.now a.a_at a.a_stride a.b.now a.b_at a.w) 0 c.loop-u.u)
-number c =
+    c.number.result ≡ tile_number g.row.N (tile g.row.N (apart_from a.a.now a.a_at a.a_stride a.b.now a.b_at a.w) 0 c.loop-u.u)
+number g c =
     let a = c.args in
-    tile-is a.side a.a.now a.a_at a.a_stride a.b.now a.b_at a.w c.loop-u.u c.number.result c.number.ensures
+    tile-is g.row.N a.a.now a.a_at a.a_stride a.b.now a.b_at a.w c.loop-u.u c.number.result c.number.ensures
 
 pub overflow_add-sum : goal.overflow_add-sum
-overflow_add-sum c =
-    let f = mul-le-mul_right 67104768 (side-count c.args.side c.args.w c.requires.tested.blocks.narrow) in
-    let o = one-tile c.requires.side in
-    omega (
-      arith,
-      summed-next 67104768 c.loop-u.invariant c.loop-u-test.true (number c)
-          (λ u p. tile-most c.requires.tested c.requires.side 0 u o p),
-      f,
-    )
-
-pub overflow_step-u : goal.overflow_step-u
-overflow_step-u c =
-    omega (arith, side-count c.args.side c.args.w c.requires.tested.blocks.narrow)
-
-pub loop-u-smaller : goal.loop-u-smaller
-loop-u-smaller c = omega arith
+overflow_add-sum g c =
+    let s = g.met.T.Tile.side in
+    let f = mul-le-mul_right 67104768 (side-count g.row.N c.args.w c.requires.blocks.narrow) in
+    let o = one-tile s in
+    omega (arith, summed-next 67104768 c.loop-u.invariant c.loop-u-test.true (number g c) (λ u p. tile-most c.requires s 0 u o p), f)
 
 pub loop-u-preserved : goal.loop-u-preserved
-loop-u-preserved c = summed-step c.loop-u.invariant c.loop-u-test.true (number c)
+loop-u-preserved g c = summed-step c.loop-u.invariant c.loop-u-test.true (number g c)
 
 pub returns : goal.returns
-returns c = summed-end c.loop-u.invariant c.loop-u-test.false
+returns g c = summed-end c.loop-u.invariant c.loop-u-test.false
