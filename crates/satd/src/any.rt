@@ -14,7 +14,7 @@ fn any_rows(a: &[u16], a_at: usize, a_stride: usize, b: &[u16], w: usize, h: usi
         let q = j * w;
         let p_end = p + w;
         let q_end = q + w;
-        any = any | block_rows::any_row(&a[p..p_end], &b[q..q_end]);
+        any |= block_rows::any_row(&a[p..p_end], &b[q..q_end]);
     }
     any
 }

@@ -1,13 +1,13 @@
 // SATD, after the Rust's evce_satd_16b. Document 01, "Distortion".
 // Differs from the Rust in: a call that breaks a test is refused, odd sides too; the depth is an argument.
 ghost use Rattle.std.specs.Prelude.{◌≡◌, ◌≤◌, length};
-ghost use Rattle.evc.specs.Answers.{distortion_reading};
+ghost use Rattle.evc.specs.Answers.{reading};
 ghost use Rattle.evc.specs.Calls.{satd_16b};
 ghost use Rattle.evc.specs.Planes.{plane_of};
 ghost use Rattle.plane_tests.specs.Blocks.{TwoBlocks, strided};
 ghost use Rattle.satd.specs.Rests.{satd_left};
 
-use evc::{Distortion, Refusal};
+use evc::Refusal;
 
 // Two blocks of samples, after all other tests: the samples are tested, and only then their differences are formed. The second
 // block is packed.
@@ -19,18 +19,18 @@ fn of_blocks(
     w: usize,
     h: usize,
     depth: u8,
-) -> Distortion
+) -> Result<u32, Refusal>
     requires two_blocks { TwoBlocks w h (length a.now) a_at a_stride (length b.now) 0 w }
     requires le_depth { (8 ≤ depth) × (depth ≤ 14) }
-    ensures { distortion_reading result ≡ satd_left w h depth (strided a.now a_at a_stride depth) (strided b.now 0 w depth) }
+    ensures { reading result ≡ satd_left w h depth (strided a.now a_at a_stride depth) (strided b.now 0 w depth) }
 {
     let any = crate::any::any_block(a, a_at, a_stride, b, w, h);
     if any >> depth != 0 {
-        return Distortion::Refused(Refusal::Sample);
+        return Err(Refusal::Sample);
     }
     let sum = crate::sums::total(satd_rules::side(w, h), a, a_at, a_stride, b, w, h);
     let satd = (sum >> (depth - 8)) as u32;
-    Distortion::Value(satd)
+    Ok(satd)
 }
 
 pub fn evce_satd_16b(
@@ -44,19 +44,19 @@ pub fn evce_satd_16b(
     h: usize,
     cur: &[u16],
     depth: u8,
-) -> Distortion
-    ensures { distortion_reading result ≡ satd_16b (plane_of org.now width height stride) x y w h cur.now depth }
+) -> Result<u32, Refusal>
+    ensures { reading result ≡ satd_16b (plane_of org.now width height stride) x y w h cur.now depth }
 {
     if plane_tests::bad_even_sides(w, h) {
-        return Distortion::Refused(Refusal::Size);
+        return Err(Refusal::Size);
     }
     if plane_tests::bad_depth(depth) {
-        return Distortion::Refused(Refusal::Depth);
+        return Err(Refusal::Depth);
     }
     if plane_tests::outside_plane(org.len(), width, height, stride, x, y, w, h)
         | (cur.len() < h * w)
     {
-        return Distortion::Refused(Refusal::Area);
+        return Err(Refusal::Area);
     }
     of_blocks(org, y * stride + x, stride, cur, w, h, depth)
 }

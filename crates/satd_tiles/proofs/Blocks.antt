@@ -3,8 +3,9 @@
 -- ---- laws of numbers and lists
 use mathlib.Core.Path.{◌≡◌, refl}
 use mathlib.Core.List.{List, [], ◌∷◌}
-use Prim.Native.Nat.{ℕ, zero, suc, ◌<◌, ◌^◌, ◌≤◌}
-use native.Mathlib.Nat.{not-suc-le-zero, le_of_suc-le-suc}
+use Prim.Native.Nat.{ℕ, zero, suc, ◌*◌, ◌<◌, ◌^◌, ◌≤◌}
+use native.Mathlib.Nat.{not-suc-le-zero, le_of_suc-le-suc, mul-le-mul}
+use native.Mathlib.Omega.{arith}
 use lib.ListN.{length, get_or}
 use lib.IntN.{ℤ, pos, nat_abs}
 use lib.Signed.{mag}
@@ -18,6 +19,13 @@ use Rattle.integers.specs.Lists.{tab}
 use Rattle.integers.proofs.Bits.{each-sfits}
 use Rattle.integers.proofs.Bound.{within-sfits}
 use Rattle.integers.proofs.Written.{is-tab}
+
+-- blocks and lines of sides up to 8 fit memory, as the type of a borrowed one asks
+pub block-small : {n : ℕ} → n ≤ 8 → n * (n * 4) < 9223372036854775808
+block-small {n} h = let p : n * 4 ≤ 32 = omega arith in omega (arith, mul-le-mul h p)
+
+pub line-small : {n : ℕ} → n ≤ 8 → n * 4 < 9223372036854775808
+line-small h = omega arith
 
 module _ (w : Width) (n : ℕ) where
   entries_fit : (m : List (List ℤ)) (us : List Val) (j i : ℕ) → shadow (each (List ℤ) (Array (SInt w) n).own_val m us) → mag (get_or (get_or m j []) i (pos 0)) < 2 ^ hbits w

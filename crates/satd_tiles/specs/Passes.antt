@@ -1,6 +1,6 @@
 -- The passes of a tile, as the contracts of src/ cite them; of any side n. A block is the list of its rows. A
 -- tile's coefficients and its number are evc's (specs/Tiles.antt). Assumes nothing.
-use Rattle.std.specs.Prelude.{◌≡◌, ℕ, zero, suc, ◌+◌, ◌≤◌, List, [], get_or, set, ℤ, pos, ◌*ℤ◌, nat_abs}
+use Rattle.std.specs.Prelude.{◌≡◌, ℕ, zero, suc, ◌≤◌, List, [], get_or, set, ℤ, pos, ◌*ℤ◌, nat_abs}
 use Rattle.integers.specs.Lists.{tab}
 use Rattle.integers.specs.Sum.{sum_z, sum_n}
 use Rattle.evc.specs.Tiles.{sign}

@@ -3,7 +3,7 @@
 // turned only once, by the column pass.
 ghost use Rattle.std.specs.Prelude.{◌≡◌, ◌<◌};
 ghost use Rattle.integers.specs.Lists.{tab};
-ghost use Rattle.satd_tiles.specs.Passes.{place, entry, BlockWithin, RowsPassed, Passed, puts};
+ghost use Rattle.satd_tiles.specs.Passes.{entry, BlockWithin, RowsPassed, Passed};
 
 use crate::line::Line;
 
@@ -67,16 +67,6 @@ fn column<const N: usize>(m: &[[i32; N]; N], i: usize) -> [i32; N]
     x
 }
 
-// A line's coefficients into column j.
-fn put_column<const N: usize>(out: &mut [[i32; N]; N], j: usize, x: [i32; N])
-    requires { j < N }
-    ensures { out.new ≡ puts (place x.entry) j out.old N }
-{
-    for b in 0..N {
-        out[b][j] = x[b];
-    }
-}
-
 // The row pass adds and subtracts the rows: row a of the result is the sum of all rows, each with its sign. A difference needs 16 bits, and a
 // sum of up to eight of them 3 more.
 pub(crate) fn row_pass<const N: usize, L: Line<N>>(block: [[i32; N]; N]) -> [[i32; N]; N]
@@ -85,7 +75,7 @@ pub(crate) fn row_pass<const N: usize, L: Line<N>>(block: [[i32; N]; N]) -> [[i3
 {
     let mut out = [[0i32; N]; N];
     for i in 0..N {
-        put_column(&mut out, i, L::coefficients(column(&block, i)));
+        L::put(&mut out, i, column(&block, i));
     }
     out
 }
@@ -98,7 +88,7 @@ pub(crate) fn column_pass<const N: usize, L: Line<N>>(m: [[i32; N]; N]) -> [[i32
 {
     let mut out = [[0i32; N]; N];
     for j in 0..N {
-        put_column(&mut out, j, L::coefficients(row(&m, j)));
+        L::put(&mut out, j, row(&m, j));
     }
     out
 }

@@ -5,13 +5,10 @@ use Rattle.integers.proofs.Loop.{summed-start, summed-step, summed-end, summed-n
 use Rattle.evc.specs.Tiles.{tile_number, tile}
 use Rattle.block_rows.specs.Small.{Tested, apart_from}
 use Rattle.satd.proofs.Tiling.{tile-most, tile-ends, side-count}
-use Rattle.satd.proofs.sums.Standing.{tested-columns, tile-is, side-some, one-tile}
+use Rattle.satd.proofs.sums.Standing.{tested-columns, tile-is, one-tile}
 use Rattle.satd.proofs.sums.across.Given.{Over}
 use Rattle.satd.proofs.sums.across.Goals.{After-number, In-loop-u}
 use Rattle.satd.proofs.sums.across.Goals as goal
-
-pub nonzero_div-u-end : goal.nonzero_div-u-end
-nonzero_div-u-end g c = omega (arith, side-some g.met.T.Tile.side)
 
 pub loop-u-init : goal.loop-u-init
 loop-u-init g c = summed-start
@@ -25,15 +22,6 @@ stands :
     let a = c.args in
     let x = c.loop-u.u * g.row.N in Tested g.row.N g.row.N a.a.now (a.a_at + x) a.a_stride a.b.now (a.b_at + x) a.w
 stands g c = tested-columns c.requires (c.loop-u.u * g.row.N) g.row.N (ends g c)
-
-pub overflow_mul-x : goal.overflow_mul-x
-overflow_mul-x g c = omega (arith, ends g c, c.requires.blocks.narrow)
-
-pub overflow_add-a_at : goal.overflow_add-a_at
-overflow_add-a_at g c = omega (arith, (stands g c).blocks.one, c.well_formed)
-
-pub overflow_add-b_at : goal.overflow_add-b_at
-overflow_add-b_at g c = omega (arith, (stands g c).blocks.two, c.well_formed)
 
 pub number-requires : goal.number-requires
 number-requires g c = stands g c

@@ -11,9 +11,6 @@ use Rattle.satd.proofs.sums.down.Given.{Over}
 use Rattle.satd.proofs.sums.down.Goals.{After-across-sum, In-loop-v}
 use Rattle.satd.proofs.sums.down.Goals as goal
 
-pub nonzero_div-v-end : goal.nonzero_div-v-end
-nonzero_div-v-end g c = omega (arith, side-some g.met.T.Tile.side)
-
 pub loop-v-init : goal.loop-v-init
 loop-v-init g c = summed-start
 
@@ -26,18 +23,6 @@ stands :
     let a = c.args in
     let y = c.loop-v.v * g.row.N in Tested a.w g.row.N a.a.now (a.a_at + y * a.a_stride) a.a_stride a.b.now (y * a.w) a.w
 stands g c = packed-rows c.requires (c.loop-v.v * g.row.N) g.row.N (side-some g.met.T.Tile.side) (ends g c)
-
-pub overflow_mul-y : goal.overflow_mul-y
-overflow_mul-y g c = omega (arith, ends g c, c.requires.blocks.low)
-
-pub overflow_mul-y-in-loop-v : goal.overflow_mul-y-in-loop-v
-overflow_mul-y-in-loop-v g c = omega (arith, (stands g c).blocks.one, c.well_formed)
-
-pub overflow_add-a_at : goal.overflow_add-a_at
-overflow_add-a_at g c = omega (arith, (stands g c).blocks.one, c.well_formed)
-
-pub overflow_mul-y-in-loop-v-2 : goal.overflow_mul-y-in-loop-v-2
-overflow_mul-y-in-loop-v-2 g c = omega (arith, (stands g c).blocks.two, c.well_formed)
 
 pub across-sum-requires : goal.across-sum-requires
 across-sum-requires g c = stands g c

@@ -1,31 +1,23 @@
 -- `satd_tiles::had::number` meets its contract: what the passes leave are the tile's coefficients (proofs/Tiles.antt). Assumes nothing.
-use Rattle.std.proofs.Common.{◌≡◌, ℕ, ◌+◌, ◌-◌, ◌*◌, ◌/◌, ◌<◌, ◌≤◌, arith, sym, ap, ◌∙◌, subst, nat_abs}
-use native.Mathlib.Nat.{mul-le-mul}
+use Rattle.std.proofs.Common.{◌≡◌, ◌+◌, ◌-◌, ◌/◌, arith, sym, ap, ◌∙◌, subst, nat_abs}
 use mir.Syntax.{w16, w32}
 use Rattle.integers.proofs.Bits.{back}
 use Rattle.evc.specs.Tiles.{tile_number, tile_sum, rounded}
 use Rattle.satd_tiles.specs.Passes.{entry, BlockWithin, rows_passed}
-use Rattle.satd_tiles.proofs.Blocks.{entry-within}
+use Rattle.satd_tiles.proofs.Blocks.{block-small, line-small, entry-within}
 use Rattle.satd_tiles.proofs.Tiles.{ByPasses, shares}
 use Rattle.satd_tiles.proofs.had.number.Given.{Over}
 use Rattle.satd_tiles.proofs.had.number.Goals.{After-abs_i32-dc, After-number}
 use Rattle.satd_tiles.proofs.had.number.Goals as goal
 
--- a block fits memory
-block : {n : ℕ} → n ≤ 8 → n * (n * 4) < 9223372036854775808
-block {n} h = let p : n * 4 ≤ 32 = omega arith in omega (arith, mul-le-mul h p)
-
-row : {n : ℕ} → n ≤ 8 → n * 4 < 9223372036854775808
-row h = omega arith
-
 pub row_pass-m-requires : goal.row_pass-m-requires
 row_pass-m-requires g c =
     let k = g.met.L.Line.sides.1 in
-    (block k, (row k, subst (BlockWithin 32768) (sym c.widened.ensures) (entry-within w16 g.row.N g.row.N c.args.diff _ c.well_formed.0)))
+    (block-small k, (line-small k, subst (BlockWithin 32768) (sym c.widened.ensures) (entry-within w16 g.row.N g.row.N c.args.diff _ c.well_formed.0)))
 
 pub at-requires : goal.at-requires
 at-requires g c =
-    let k = g.met.L.Line.sides in (block k.1, (row k.1, (k.0, k.0)))
+    let k = g.met.L.Line.sides in (block-small k.1, (line-small k.1, (k.0, k.0)))
 
 -- the tile, by what the calls gave
 tile : (g : Over) (c : After-abs_i32-dc g) → ByPasses g.row.N c.args.diff c.row_pass-m.result c.column_pass-c.result c.sum-all.result c.abs_i32-dc.result

@@ -1,7 +1,8 @@
 -- `satd_tiles::passes::column_pass` meets its contract. Assumes nothing.
-use Rattle.std.proofs.Common.{ℤ, pos, List, arith, ap, ◌∙◌, sym, subst, le_trans}
+use Rattle.std.proofs.Common.{pos, arith, sym, subst, le_trans}
 use native.Mathlib.Nat.{mul-le-mul_right}
-use Rattle.satd_tiles.specs.Passes.{place, BlockWithin, passed}
+use Rattle.satd_tiles.specs.Passes.{place, whole_line, BlockWithin, passed}
+use Rattle.satd_tiles.proofs.Blocks.{block-small, line-small}
 use Rattle.satd_tiles.proofs.Lines.{took-within, took-line}
 use Rattle.satd_tiles.proofs.Columns.{columns-start, columns-turn, columns-end}
 use Rattle.satd_tiles.proofs.Tiles.{passed-within}
@@ -10,15 +11,15 @@ use Rattle.satd_tiles.proofs.passes.column_pass.Goals as goal
 pub loop-j-init : goal.loop-j-init
 loop-j-init g c = columns-start (pos 0)
 
-pub coefficients-requires : goal.coefficients-requires
-coefficients-requires g c =
-    (omega (arith, g.met.L.Line.sides.1), took-within g.row.N 262144 _ _ c.row.ensures (c.requires c.loop-j.j))
+pub put-requires : goal.put-requires
+put-requires g c =
+    let k = g.met.L.Line.sides.1 in
+    (block-small k, (line-small k, (c.loop-j-test.true, took-within g.row.N 262144 _ _ c.row.ensures (c.requires c.loop-j.j))))
 
 pub loop-j-preserved : goal.loop-j-preserved
 loop-j-preserved g c =
-    rw c.put_column.ensures
-    (columns-turn (place c.coefficients.result) c.loop-j.invariant c.loop-j-test.true
-    (λ b h. ap (λ (l : List ℤ). place l b) c.coefficients.ensures ∙ took-line g.row.N _ _ c.row.ensures b h))
+    rw c.put.ensures
+    (columns-turn (place (whole_line g.row.N c.row.result)) c.loop-j.invariant c.loop-j-test.true (took-line g.row.N _ _ c.row.ensures))
 
 pub returns : goal.returns
 unfolding passed

@@ -1,7 +1,8 @@
 -- `satd_tiles::passes::row_pass` meets its contract. Assumes nothing.
-use Rattle.std.proofs.Common.{ℤ, pos, List, arith, ap, ◌∙◌, sym, subst, le_trans, lit≤}
+use Rattle.std.proofs.Common.{pos, arith, sym, subst, le_trans, lit≤}
 use native.Mathlib.Nat.{mul-le-mul_right}
-use Rattle.satd_tiles.specs.Passes.{place, BlockWithin, rows_passed}
+use Rattle.satd_tiles.specs.Passes.{place, whole_line, BlockWithin, rows_passed}
+use Rattle.satd_tiles.proofs.Blocks.{block-small, line-small}
 use Rattle.satd_tiles.proofs.Lines.{took-within, took-line}
 use Rattle.satd_tiles.proofs.Columns.{columns-start, columns-turn, columns-end}
 use Rattle.satd_tiles.proofs.Tiles.{rows-passed-within}
@@ -10,15 +11,15 @@ use Rattle.satd_tiles.proofs.passes.row_pass.Goals as goal
 pub loop-i-init : goal.loop-i-init
 loop-i-init g c = columns-start (pos 0)
 
-pub coefficients-requires : goal.coefficients-requires
-coefficients-requires g c =
-    (omega (arith, g.met.L.Line.sides.1), took-within g.row.N 262144 _ _ c.column.ensures (λ k. le_trans (c.requires k c.loop-i.i) (lit≤ tt)))
+pub put-requires : goal.put-requires
+put-requires g c =
+    let k = g.met.L.Line.sides.1 in
+    (block-small k, (line-small k, (c.loop-i-test.true, took-within g.row.N 262144 _ _ c.column.ensures (λ k. le_trans (c.requires k c.loop-i.i) (lit≤ tt)))))
 
 pub loop-i-preserved : goal.loop-i-preserved
 loop-i-preserved g c =
-    rw c.put_column.ensures
-    (columns-turn (place c.coefficients.result) c.loop-i.invariant c.loop-i-test.true
-    (λ b h. ap (λ (l : List ℤ). place l b) c.coefficients.ensures ∙ took-line g.row.N _ _ c.column.ensures b h))
+    rw c.put.ensures
+    (columns-turn (place (whole_line g.row.N c.column.result)) c.loop-i.invariant c.loop-i-test.true (took-line g.row.N _ _ c.column.ensures))
 
 pub returns : goal.returns
 unfolding rows_passed
