@@ -1,7 +1,6 @@
 // SATD, after the Rust's enc/sad.rs: the differences of two blocks, summed tile by tile.
 #![tactic(auto)]
 
-mod any;
 mod satd;
 mod sums;
 mod tiles;

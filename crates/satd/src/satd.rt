@@ -7,6 +7,7 @@ ghost use Rattle.evc.specs.Planes.{plane_of};
 ghost use Rattle.plane_tests.specs.Blocks.{TwoBlocks, strided};
 ghost use Rattle.satd.specs.Rests.{satd_left};
 
+use block_rows::{BlockPair, any_block};
 use evc::Refusal;
 
 // Two blocks of samples, after all other tests: the samples are tested, and only then their differences are formed. The second
@@ -24,7 +25,16 @@ fn of_blocks(
     requires le_depth { (8 ≤ depth) × (depth ≤ 14) }
     ensures { reading result ≡ satd_left w h depth (strided a.now a_at a_stride depth) (strided b.now 0 w depth) }
 {
-    let any = crate::any::any_block(a, a_at, a_stride, b, w, h);
+    let any = any_block(&BlockPair {
+        a: a,
+        a_at: a_at,
+        a_stride: a_stride,
+        b: b,
+        b_at: 0,
+        b_stride: w,
+        w: w,
+        h: h,
+    });
     if any >> depth != 0 {
         return Err(Refusal::Sample);
     }
