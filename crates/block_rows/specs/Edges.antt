@@ -17,12 +17,6 @@ abbrev pub behind : ℤ → ℕ
 behind (pos n) = 0
 behind (negsuc n) = suc n
 
--- n is the least of a and b
-pub record Least (a b n : ℕ) : Type 0 where
-  pub within : n ≤ b
-  pub under : n ≤ a
-  pub over : (i : ℕ) → n ≤ i → i < b → a ≤ i
-
 -- the block of w by h at (x, y) reads inside n samples
 pub record EdgesIn (n stride : ℕ) (x y : ℤ) (w h : ℕ) : Type 0 where
   pub wide : 1 ≤ w

@@ -51,6 +51,7 @@ pub trait Compare<A>: Copy {
 
 impl<'a, A> BlockPair<'a, A> {
     // Row j of each.
+    #[inline(always)]
     fn row(&self, j: usize, w: usize) -> RowPair<'a, A>
         requires within { j < self.now.h }
         requires width { w ≡ self.now.w }
@@ -68,6 +69,8 @@ impl<'a, A> BlockPair<'a, A> {
     }
 }
 
+// The sides come as literals: so it is made anew for each of them.
+#[inline(always)]
 fn rows<A, C: Compare<A>>(compare: C, pair: &BlockPair<A>, w: usize, h: usize) -> Totals
     requires width { w ≡ pair.now.w }
     requires height { h ≡ pair.now.h }
@@ -83,17 +86,20 @@ fn rows<A, C: Compare<A>>(compare: C, pair: &BlockPair<A>, w: usize, h: usize) -
     Totals { sum: sum, any: any }
 }
 
-// What two blocks add up to.
+// What two blocks add up to. Inlined, so that a pair is no place in memory.
+#[inline(always)]
 pub fn compare_blocks<A, C: Compare<A>>(compare: C, pair: &BlockPair<A>) -> Totals
     ensures { BlocksTotalled (64 * (64 * C.most)) (C.adds compare) (C.marks compare) pair.now.w pair.now.h (cell C.none pair.now.a.now pair.now.a_at pair.now.a_stride) (cell 0 pair.now.b.now pair.now.b_at pair.now.b_stride) result.sum result.any }
 {
     let h = pair.h;
+    if pair.w == 4 && h == 4 {
+        return rows(compare, pair, 4, 4);
+    }
     match pair.w {
         64 => rows(compare, pair, 64, h),
         32 => rows(compare, pair, 32, h),
         16 => rows(compare, pair, 16, h),
         8 => rows(compare, pair, 8, h),
-        4 if h == 4 => rows(compare, pair, 4, 4),
         4 => rows(compare, pair, 4, h),
         2 => rows(compare, pair, 2, h),
         w => rows(compare, pair, w, h),

@@ -1,11 +1,11 @@
 // Positions that may be negative: each negative row or column reads as 0, sample by sample. Document 01, "Distortion": where the Rust takes the larger
 // of a position and 0.
 // Differs from the Rust in: positions are added in 32 bits, so that nothing wraps at 32767; a row is read once, before it is compared.
-ghost use Rattle.std.specs.Prelude.{◌≡◌, ◌||◌, ◌-◌, ◌≤◌, pos, ◌+ℤ◌, length, get_or};
+ghost use Rattle.std.specs.Prelude.{◌≡◌, ◌||◌, ◌≤◌, pos, ◌+ℤ◌, length, get_or};
 ghost use Rattle.std.specs.Int.Signed.{lt_z};
 ghost use Rattle.integers.specs.Lists.{tab};
 ghost use Rattle.evc.specs.Planes as plane;
-ghost use Rattle.block_rows.specs.Edges.{behind, row_at_edge, Least};
+ghost use Rattle.block_rows.specs.Edges.{behind, row_at_edge};
 
 use crate::Place;
 
@@ -31,7 +31,7 @@ pub fn row_start(x: i16, y: i16, j: u16) -> Place
 pub fn negative(x: i16, y: i16) -> bool
     ensures { result ≡ lt_z x (pos 0) || lt_z y (pos 0) }
 {
-    if x < 0 { true } else { y < 0 }
+    x < 0 || y < 0
 }
 
 // How many positions from x on are negative.
@@ -39,19 +39,6 @@ fn below(x: i16) -> usize
     ensures { (result ≡ behind x) × (result ≤ 32768) }
 {
     if x < 0 { (0 - (x as i32)) as usize } else { 0 }
-}
-
-fn least(a: usize, b: usize) -> usize
-    ensures { Least a b result }
-{
-    if a < b { a } else { b }
-}
-
-// How many of n samples are left from a place on.
-fn left(n: usize, from: usize) -> usize
-    ensures { result ≡ n - from }
-{
-    if from < n { n - from } else { 0 }
 }
 
 // A row's sample; past its end, which no block reaches, 0.
@@ -68,8 +55,8 @@ fn long_row(row: &[u16], x: i16, out: &mut [u16])
 {
     let w = out.len();
     let up = edge(x, 0);
-    let n = least(below(x), w);
-    let m = n + least(left(row.len(), up), w - n);
+    let n = below(x).min(w);
+    let m = n + row.len().saturating_sub(up).min(w - n);
     let head = sample(row, 0);
     for i in 0..n {
         out[i] = head;

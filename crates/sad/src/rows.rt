@@ -37,6 +37,7 @@ impl Compare<u16> for Sad {
     ghost bounded = { Prim.search rules };
 
     // The absolute differences of two rows, added.
+    #[inline(always)]
     fn row(self, rows: RowPair<u16>) -> Totals
         ensures { RowsTotalled (64 * 65535) apart bit_or (length rows.entry.a.now) (value_at 0 rows.entry.a.now) (value_at 0 rows.entry.b.now) result.sum result.any }
     {

@@ -14,13 +14,7 @@ use block_rows::{BlockPair, Compare, EdgePair, RowPair, Totals, compare_at_edges
 fn distance(v: i16, q: u16) -> u32
     ensures { (result ≡ apart_bi v q) × (result ≤ 98303) }
 {
-    let x = v as i32;
-    let y = q as i32;
-    if x < y {
-        (y - x) as u32
-    } else {
-        (x - y) as u32
-    }
+    (v as i32).abs_diff(q as i32)
 }
 
 // Bi-prediction values and a block of samples, compared by their absolute differences.
@@ -39,6 +33,7 @@ impl Compare<i16> for SadBi {
     ghost bounded = { Prim.search rules };
 
     // The absolute differences of two rows, added.
+    #[inline(always)]
     fn row(self, rows: RowPair<i16>) -> Totals
         ensures { RowsTotalled (64 * 98303) apart_bi mark_bi (length rows.entry.a.now) (value_at (pos 0) rows.entry.a.now) (value_at 0 rows.entry.b.now) result.sum result.any }
     {

@@ -29,7 +29,7 @@ fn near(v: i16, q: u16) -> u16
     ensures { (result ≡ near_bi v q) × (result ≤ 32767) }
 {
     let d = raised(v) - ((q & 16383) as i16);
-    if d < 0 { (0 - d) as u16 } else { d as u16 }
+    d.unsigned_abs()
 }
 
 // The absolute differences of n values and of the n after them, added in pairs, which 16 bits hold. So that each vector holds as many values as

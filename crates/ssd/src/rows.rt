@@ -58,6 +58,7 @@ impl Compare<u16> for Ssd {
 
     // The squared differences of two rows, each divided by 2^(2 · (depth - 8)), added. Samples are cut to the depth's bits: so each summand has 16
     // bits and a row's sum 32, and a sample that is changed by it is one that the caller refuses.
+    #[inline(always)]
     fn row(self, rows: RowPair<u16>) -> Totals
         ensures { RowsTotalled (64 * 65535) (squared_low self.depth) bit_or (length rows.entry.a.now) (value_at 0 rows.entry.a.now) (value_at 0 rows.entry.b.now) result.sum result.any }
     {

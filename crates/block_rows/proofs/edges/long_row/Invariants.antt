@@ -7,17 +7,8 @@ use Rattle.block_rows.proofs.edges.long_row.Given as goal
 abbrev pub invariant-loop-i : goal.invariant-loop-i
 invariant-loop-i l = Filled ℕ 0 l.w (row_at_edge l.row l.x) l.out l.i × (l.i ≤ l.n)
 
-abbrev pub decreases-loop-i : goal.decreases-loop-i
-decreases-loop-i l = l.n - l.i
-
 abbrev pub invariant-loop-i-2 : goal.invariant-loop-i-2
 invariant-loop-i-2 l = Filled ℕ 0 l.w (row_at_edge l.row l.x) l.out l.i × (l.n ≤ l.i) × (l.i ≤ l.m)
 
-abbrev pub decreases-loop-i-2 : goal.decreases-loop-i-2
-decreases-loop-i-2 l = l.m - l.i
-
 abbrev pub invariant-loop-i-3 : goal.invariant-loop-i-3
 invariant-loop-i-3 l = Filled ℕ 0 l.w (row_at_edge l.row l.x) l.out l.i × (l.m ≤ l.i)
-
-abbrev pub decreases-loop-i-3 : goal.decreases-loop-i-3
-decreases-loop-i-3 l = l.w - l.i

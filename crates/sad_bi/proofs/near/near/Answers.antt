@@ -2,14 +2,10 @@
 use Rattle.std.proofs.Common.{◌≡◌, ℕ, [], ◌∷◌, ℤ, pos, ◌-ℤ◌, nat_abs, ◌≤ℤ◌, sym, ap, ◌∙◌, subst, ap₂, arith, to_z-of_z, w16, SFits, to_z, of_z}
 use lib.Bits.{bit_and, and_le_r, and_mask}
 use Rattle.integers.proofs.Bound.{Within, within-sfits, sfits-within}
-use Rattle.integers.proofs.Order.{<ℤ-≤ℤ}
-use Rattle.integers.proofs.Bits.{lt-held, lt-failed}
-use Rattle.integers.proofs.Expr.{Ex, Known, env, nat, var, lit, sub, loc, fit, reads, to-unsigned}
-use Rattle.integers.proofs.Parts.{sub-nonneg}
+use Rattle.integers.proofs.Expr.{Ex, Known, env, nat, var, sub, reads}
 use Rattle.sad_bi.specs.Near.{raise, near_bi}
-use Rattle.block_rows.proofs.Signed.{abs-minus}
 use Rattle.sad_bi.proofs.Cut.{near_within}
-use Rattle.sad_bi.proofs.near.near.Goals.{After-raised, Else-d-lt0, Then-d-lt0}
+use Rattle.sad_bi.proofs.near.near.Goals.{After-raised}
 use Rattle.sad_bi.proofs.near.near.Goals as goal
 
 -- the value raised, and the sample's last 14 bits
@@ -60,48 +56,15 @@ named : (c : After-raised) → nat_abs (x c -ℤ pos (y c)) ≡ near_bi c.args.v
 unfolding near_bi
 named c = ap₂ (λ (z : ℤ) (n : ℕ). nat_abs (z -ℤ pos n)) (is-raised c) (and_mask c.args.q 14)
 
-negated : Ex
-negated = sub (lit (pos 0)) (var 0)
-
 pub overflow_cast-d : goal.overflow_cast-d
 overflow_cast-d c = omega (arith, and_le_r c.args.q 16383)
-
-pub raised-requires : goal.raised-requires
-raised-requires c = tt
 
 pub overflow_sub-d : goal.overflow_sub-d
 overflow_sub-d c = subst (SFits w16) (sym (exactly c)) (fits c)
 
-negative : (c : Then-d-lt0) → (x (goal.at.overflow_sub-result c).After-raised -ℤ pos (y (goal.at.overflow_sub-result c).After-raised)) ≤ℤ pos 0
+pub returns : goal.returns
 unfolding known
-negative c = subst (λ (z : ℤ). z ≤ℤ pos 0) (known (goal.at.overflow_sub-result c).After-raised).same (<ℤ-≤ℤ (lt-held _ _ c.if-d-lt0.true))
-
-not_negative : (c : Else-d-lt0) → pos 0 ≤ℤ (x (goal.at.overflow_cast-result-else-d-lt0 c).After-raised -ℤ pos (y (goal.at.overflow_cast-result-else-d-lt0 c).After-raised))
-unfolding known
-not_negative c = subst (λ (z : ℤ). pos 0 ≤ℤ z) (known (goal.at.overflow_cast-result-else-d-lt0 c).After-raised).same (lt-failed _ _ c.if-d-lt0.false)
-
-pub overflow_sub-result : goal.overflow_sub-result
-unfolding known negated
-overflow_sub-result c = fit (σ (goal.at.overflow_sub-result c).After-raised) w16 negated tt
-
-pub overflow_cast-result : goal.overflow_cast-result
-unfolding known negated
-overflow_cast-result c =
-    to-unsigned (σ (goal.at.overflow_cast-result c).After-raised) w16 (loc w16 negated) tt tt (sub-nonneg (pos 0) (x (goal.at.overflow_cast-result c).After-raised -ℤ pos (y (goal.at.overflow_cast-result c).After-raised)) (negative c))
-
-pub overflow_cast-result-else-d-lt0 : goal.overflow_cast-result-else-d-lt0
-unfolding known
-overflow_cast-result-else-d-lt0 c = to-unsigned (σ (goal.at.overflow_cast-result-else-d-lt0 c).After-raised) w16 (var 0) tt tt (not_negative c)
-
-pub returns-then-d-lt0 : goal.returns-then-d-lt0
-unfolding known negated
-returns-then-d-lt0 c =
-    let z = x (goal.at.returns-then-d-lt0 c).After-raised -ℤ pos (y (goal.at.returns-then-d-lt0 c).After-raised) in
-    let e = ap nat_abs (reads (σ (goal.at.returns-then-d-lt0 c).After-raised) (loc w16 negated) tt) ∙ abs-minus z in
-    (e ∙ named (goal.at.returns-then-d-lt0 c).After-raised, omega (arith, e, (close (goal.at.returns-then-d-lt0 c).After-raised).bound))
-
-pub returns-else-d-lt0 : goal.returns-else-d-lt0
-unfolding known
-returns-else-d-lt0 c =
-    let e = ap nat_abs (reads (σ (goal.at.returns-else-d-lt0 c).After-raised) (var 0) tt) in
-    (e ∙ named (goal.at.returns-else-d-lt0 c).After-raised, omega (arith, e, (close (goal.at.returns-else-d-lt0 c).After-raised).bound))
+returns c =
+    let b = (goal.at.returns c).After-raised in
+    let e = c.unsigned_abs.ensures.value ∙ ap nat_abs (reads (σ b) (var 0) tt) in
+    (e ∙ named b, omega (arith, e, (close b).bound))
