@@ -5,8 +5,8 @@ ghost use Rattle.block_rows.specs.Totals.{RowsTotalled, BlocksTotalled};
 ghost use Rattle.block_rows.specs.Edges.{EdgesIn, edge_cell, row_at_edge};
 ghost use Rattle.ssd.specs.Squares.{squared_low};
 
-use crate::rows::Ssd;
-use block_rows::{BlockPair, Compare, RowPair, Totals, compare_blocks};
+use crate::rows::{Ssd, ssd_block};
+use block_rows::{BlockPair, Compare, RowPair, Totals};
 
 // Blocks of w by h of two planes, at one position, which may be negative.
 #[derive(Drop)]
@@ -63,7 +63,7 @@ pub(crate) fn total(ssd: Ssd, pair: &TwoEdges) -> Totals
         return edge_rows(ssd, pair);
     }
     let first = block_rows::row_start(pair.x, pair.y, 0);
-    compare_blocks(
+    ssd_block(
         ssd,
         &BlockPair {
             a: pair.one,

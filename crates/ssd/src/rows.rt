@@ -5,10 +5,11 @@
 ghost use Rattle.std.specs.Prelude.{◌≡◌, ◌*◌, ◌%◌, ◌<◌, ◌≤◌, length};
 ghost use Rattle.std.specs.Int.Bits.{bit_or};
 ghost use Rattle.std.proofs.Common.{rules};
-ghost use Rattle.block_rows.specs.Totals.{RowsTotalled, apart, value_at};
+ghost use Rattle.block_rows.specs.Totals.{RowsTotalled, BlocksTotalled, apart, value_at};
+ghost use Rattle.plane_tests.specs.Blocks.{cell};
 ghost use Rattle.ssd.specs.Squares.{squared, squared_low};
 
-use block_rows::{Compare, RowPair, Totals};
+use block_rows::{BlockPair, Compare, RowPair, Totals, compare_blocks};
 
 // By how many bits SSD divides a squared difference: 2 · (depth - 8) of a depth that is allowed, which the remainder doesn't change.
 fn square_shift(depth: u8) -> u8
@@ -77,4 +78,12 @@ impl Compare<u16> for Ssd {
         let all = sum as u64;
         Totals { sum: all, any }
     }
+}
+
+// What two blocks add up to. It is a function of its own: where compilers see that a second block is packed, they add rows of 8 and 16 worse.
+#[inline(never)]
+pub(crate) fn ssd_block(ssd: Ssd, pair: &BlockPair<u16>) -> Totals
+    ensures { BlocksTotalled (64 * (64 * 65535)) (squared_low ssd.depth) bit_or pair.now.w pair.now.h (cell 0 pair.now.a.now pair.now.a_at pair.now.a_stride) (cell 0 pair.now.b.now pair.now.b_at pair.now.b_stride) result.sum result.any }
+{
+    compare_blocks(ssd, pair)
 }

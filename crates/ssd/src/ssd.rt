@@ -8,8 +8,8 @@ ghost use Rattle.evc.specs.Calls.{ssd_16b, ssd_16i};
 ghost use Rattle.evc.specs.Planes.{plane_of};
 
 use crate::edges::TwoEdges;
-use crate::rows::Ssd;
-use block_rows::{BlockPair, Totals, compare_blocks};
+use crate::rows::{Ssd, ssd_block};
+use block_rows::{BlockPair, Totals};
 use evc::Refusal;
 
 // Every SSD ends here: a sample that is too large leaves a bit at or above the depth. The test stands here, since by a call of `bad_samples` the rows
@@ -53,7 +53,7 @@ pub fn evce_ssd_16b(
     if plane_tests::outside_plane(cur.len(), w, h, w, 0, 0, w, h) {
         return Err(Refusal::Area);
     }
-    let t = compare_blocks(
+    let t = ssd_block(
         Ssd { depth },
         &BlockPair {
             a: org,

@@ -20,10 +20,10 @@ y-fits c = sfits_of c.fits-pair.1.1.1.1.1.0.1
 plain : (c : Else-negative) → let p = c.args.pair.now in Plain p.x p.y
 plain c = is_plain (x-fits c) (y-fits c) c.negative.ensures c.if-negative.false
 
-pub invariant_of-compare_blocks : goal.invariant_of-compare_blocks
-invariant_of-compare_blocks c =
+pub invariant_of-ssd_block : goal.invariant_of-ssd_block
+invariant_of-ssd_block c =
     let p = c.args.pair.now in
-    let b = (goal.at.invariant_of-compare_blocks c).Else-negative in
+    let b = (goal.at.invariant_of-ssd_block c).Else-negative in
     let e = c.row_start-first.ensures in
     record {
       inside = record {
@@ -40,4 +40,4 @@ returns c =
     let b = (goal.at.returns c).Else-negative in
     let e = c.row_start-first.ensures in
     blocks-alike (squared_low c.args.ssd.depth) bit_or p.w (plain-same p.stride1 (plain b) (stands p.stride1 (x-fits b) (y-fits b) e) p.one.now)
-    (plain-same p.stride2 (plain b) (stands p.stride2 (x-fits b) (y-fits b) e) p.two.now) c.compare_blocks.ensures
+    (plain-same p.stride2 (plain b) (stands p.stride2 (x-fits b) (y-fits b) e) p.two.now) c.ssd_block.ensures

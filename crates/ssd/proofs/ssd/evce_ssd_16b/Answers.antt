@@ -90,11 +90,11 @@ overflow_mul-y c = omega (arith, (blocks c).one)
 pub overflow_add-y : goal.overflow_add-y
 overflow_add-y c = omega (arith, (blocks c).one)
 
-pub invariant_of-compare_blocks : goal.invariant_of-compare_blocks
-invariant_of-compare_blocks c = record { inside = blocks c }
+pub invariant_of-ssd_block : goal.invariant_of-ssd_block
+invariant_of-ssd_block c = record { inside = blocks c }
 
 pub end-requires : goal.end-requires
-end-requires c = ((outside-no 8 14 _ (deep (goal.at.end-requires c).Else-bad_depth)).1, omega (arith, c.compare_blocks-t.ensures.most))
+end-requires c = ((outside-no 8 14 _ (deep (goal.at.end-requires c).Else-bad_depth)).1, omega (arith, c.ssd_block-t.ensures.most))
 
 pub returns : goal.returns
 returns c =
@@ -103,5 +103,5 @@ returns c =
     let h = shifted a.log2_h in
     let p = plane-alike a.org.now a.width a.height a.stride a.x a.y w h a.depth (a.y * a.stride + a.x) refl in
     let q = plane-alike a.cur.now w h w 0 0 w h a.depth 0 (omega arith) in
-    ssd-alike p q a.depth (c.end.ensures ∙ ssd-totalled w h a.depth _ _ c.compare_blocks-t.ensures)
+    ssd-alike p q a.depth (c.end.ensures ∙ ssd-totalled w h a.depth _ _ c.ssd_block-t.ensures)
     ∙ ssd-rest a.log2_w a.log2_h a.depth (A (goal.at.returns c).Start) (B (goal.at.returns c).Start) (sized (goal.at.returns c).Else-bad_logs) (deep (goal.at.returns c).Else-bad_depth) (one (goal.at.returns c).Else-outside_plane) (two (goal.at.returns c).Else-outside_plane-2)
