@@ -2,6 +2,7 @@
 // adds several lines in one instruction; a block of 64 rows for every size.
 ghost use Rattle.std.specs.Prelude.{◌≡◌, ◌+◌, ◌/◌, ◌≤◌};
 ghost use Rattle.integers.specs.Lists.{tab};
+ghost use Rattle.itx_table.specs.Flat.{flat};
 ghost use Rattle.itx_lanes.specs.Lanes.{AnySize, lane_sum};
 ghost use Rattle.itx_lanes.specs.Steps.{All};
 
@@ -10,12 +11,14 @@ use super::lanes::{pick, places};
 
 // From size M to size 2M, in all 16 lanes: the places from FROM to TO and their mirrors, in eight stretches. Of 16 places or fewer each is so short that
 // a compiler writes its loops out: it then sees which numbers of the table it reads, and needs no table at run time.
-fn rows<const M: usize, const FROM: usize, const TO: usize>(s: &[i16; 1024], e: &mut [i32])
-    requires { All s.now e.old M FROM (32 / M + 32 / M) × ((FROM ≤ TO) × (TO ≤ M)) }
+fn rows<const M: usize, const FROM: usize, const TO: usize>(
+    t: &[i8; 4096],
+    s: &[i16; 1024],
+    e: &mut [i32],
+)
+    requires { (t.now ≡ flat) × (All s.now e.old M FROM (32 / M + 32 / M) × ((FROM ≤ TO) × (TO ≤ M))) }
     ensures { All s.now e.new M TO (32 / M) }
 {
-    let all = itx_table::table();
-    let t = &all;
     let few = (TO - FROM) / 8;
     for j in 0..16 {
         let mut picked = [0i32; M];
@@ -32,6 +35,16 @@ fn rows<const M: usize, const FROM: usize, const TO: usize>(s: &[i16; 1024], e: 
     }
 }
 
+// The same with the table. `rows` is lent it, and doesn't make it: so a compiler puts the sums in order before it knows the numbers, and needs fewer
+// instructions.
+fn pass<const M: usize, const FROM: usize, const TO: usize>(s: &[i16; 1024], e: &mut [i32])
+    requires { All s.now e.old M FROM (32 / M + 32 / M) × ((FROM ≤ TO) × (TO ≤ M)) }
+    ensures { All s.now e.new M TO (32 / M) }
+{
+    let all = itx_table::table();
+    rows::<M, FROM, TO>(&all, s, e);
+}
+
 // The sums of size 16, 32 or 64, as the P places say: place n of lane j stands at n·16+j. Any other number of places is left as it is.
 pub fn sums<const P: usize>(s: &[i16; 1024], e: &mut [i32; P])
     ensures sized { AnySize P → e.new ≡ tab P (lane_sum (P / 16) s.now) }
@@ -41,14 +54,14 @@ pub fn sums<const P: usize>(s: &[i16; 1024], e: &mut [i32; P])
         return;
     }
     base(s, e);
-    rows::<8, 0, 8>(s, e);
+    pass::<8, 0, 8>(s, e);
     if P == 256 {
         return;
     }
-    rows::<16, 0, 16>(s, e);
+    pass::<16, 0, 16>(s, e);
     if P == 512 {
         return;
     }
-    rows::<32, 0, 16>(s, e);
-    rows::<32, 16, 32>(s, e);
+    pass::<32, 0, 16>(s, e);
+    pass::<32, 16, 32>(s, e);
 }

@@ -1,8 +1,8 @@
 -- `itx_lanes::base::base` meets its contract: lane after lane, from nothing to size 8. Assumes nothing.
-use mathlib.Core.Path.{refl, sym}
+use mathlib.Core.Path.{refl}
 use Prim.Native.Nat.{◌≤◌}
 use native.Mathlib.Omega.{arith}
-use lib.Dec.{lit<, lit≤}
+use lib.Dec.{lit≤}
 use lib.ListN.{length}
 use Rattle.itx_halving.proofs.Step.{all}
 use Rattle.itx_lanes.proofs.AsLine.{lane-length, kept_then}
@@ -16,43 +16,8 @@ use Rattle.itx_lanes.proofs.base.base.Goals as goal
 room : (c : After-places-arg-1) → 256 ≤ length c.lane2.new.e
 room c = omega (arith, c.loop-j.invariant.long, c.lane2.ensures.kept.long, c.requires)
 
-pub table-all-requires : goal.table-all-requires
-table-all-requires c = tt
-
 pub loop-j-init : goal.loop-j-init
 loop-j-init c = passed_none (λ i h. lane-length c.args.e.now i)
-
-pub lane2-requires : goal.lane2-requires
-lane2-requires c =
-    (c.table-all.ensures, omega (arith, c.loop-j.invariant.long, c.requires), c.loop-j-test.true)
-
-pub slice_bounds-pick-end : goal.slice_bounds-pick-end
-slice_bounds-pick-end c = refl
-
-pub pick-requires : goal.pick-requires
-pick-requires c = (refl, record { some = lit< tt; rows = lit≤ tt }, c.lane2.ensures.lane.among)
-
-pub slice_bounds-places-end : goal.slice_bounds-places-end
-slice_bounds-places-end c = sym c.pick.ensures.long
-
-pub places-requires : goal.places-requires
-places-requires c = (
-  record {
-    table = c.table-all.ensures;
-    block = c.args.s.now;
-    given = record { lane = c.lane2.ensures.lane; picks = c.pick.ensures };
-  },
-  (lit≤ tt, lit≤ tt),
-)
-
-pub slice_bounds-pick-end-in-loop-j : goal.slice_bounds-pick-end-in-loop-j
-slice_bounds-pick-end-in-loop-j c = refl
-
-pub pick-requires-in-loop-j : goal.pick-requires-in-loop-j
-pick-requires-in-loop-j c = (refl, record { some = lit< tt; rows = lit≤ tt }, c.lane2.ensures.lane.among)
-
-pub slice_bounds-places-end-in-loop-j : goal.slice_bounds-places-end-in-loop-j
-slice_bounds-places-end-in-loop-j c = sym c.pick-in-loop-j.ensures.long
 
 pub places-requires-in-loop-j : goal.places-requires-in-loop-j
 places-requires-in-loop-j c = (
@@ -68,12 +33,6 @@ places-requires-in-loop-j c = (
   (lit≤ tt, lit≤ tt),
 )
 
-pub overflow_step-j : goal.overflow_step-j
-overflow_step-j c = omega arith
-
-pub loop-j-smaller : goal.loop-j-smaller
-loop-j-smaller c = omega arith
-
 pub loop-j-preserved : goal.loop-j-preserved
 loop-j-preserved c =
     let u = c.lane2.ensures in
@@ -81,9 +40,6 @@ loop-j-preserved c =
     let w = c.places-in-loop-j.ensures.done _ (record { lane = v.lane; picks = c.pick-in-loop-j.ensures }) in
     passed-more c.loop-j.invariant w.lane.among (kept_then u.kept (kept_then v.kept w.kept))
     (record { part = w.lane.part; narrow = finer c.pick-in-loop-j.ensures refl w.lane.narrow })
-
-pub shape_of-e : goal.shape_of-e
-shape_of-e c = c.loop-j.invariant.long
 
 pub returns : goal.returns
 returns c =

@@ -1,12 +1,8 @@
 -- `itx_lanes::base::base` meets its contract: lane after lane, from nothing to size 8. Assumes nothing.
 use mathlib.Core.Path.{◌≡◌}
-use Prim.Native.Nat.{◌-◌}
 use lib.ListN.{length}
 use Rattle.itx_lanes.proofs.Passes.{Places, Passed}
 use Rattle.itx_lanes.proofs.base.base.Given as goal
 
 abbrev pub invariant-loop-j : goal.invariant-loop-j
 invariant-loop-j l = Passed (λ i l. length l ≡ 64) (Places l.s 4 4 8) l.initial.e l.e l.j
-
-abbrev pub decreases-loop-j : goal.decreases-loop-j
-decreases-loop-j l = 16 - l.j

@@ -3,7 +3,6 @@ use borrow.Author.Rules.{sfits_of}
 use mathlib.Core.Path.{◌∙◌, sym, subst}
 use mathlib.Core.List.{List, [], ◌∷◌}
 use Prim.Native.Nat.{ℕ, ◌+◌}
-use native.Mathlib.Omega.{arith}
 use lib.ListN.{get_or}
 use lib.IntN.{ℤ, pos}
 use mir.Syntax.{w8, w16, w32}
@@ -41,17 +40,8 @@ one = loc w32 (mul (loc w32 (var 0)) (loc w32 (var 1)))
 abbrev other : Ex
 other = loc w32 (mul (loc w32 (var 2)) (loc w32 (var 3)))
 
-pub bounds-t-n : goal.bounds-t-n
-bounds-t-n c = omega (arith, c.requires.1)
-
 pub overflow_cast-result : goal.overflow_cast-result
 overflow_cast-result c = fit (env (upper (goal.at.overflow_cast-result c).Start ∷ [])) w32 (var 0) tt
-
-pub offset_bounds-s-j : goal.offset_bounds-s-j
-offset_bounds-s-j c = omega (arith, c.requires.2)
-
-pub bounds-s-j : goal.bounds-s-j
-bounds-s-j c = omega (arith, c.requires.2)
 
 pub overflow_cast-result-2 : goal.overflow_cast-result-2
 overflow_cast-result-2 c = fit (env (arg w16 (get_or c.args.s.now c.args.j (pos 0)) (sfits_of c.result-2-1.given) ∷ [])) w32 (var 0) tt
@@ -61,23 +51,8 @@ overflow_mul-result c =
     fit (env (upper (goal.at.overflow_mul-result c).Start ∷ arg w16 (get_or c.args.s.now c.args.j (pos 0)) (sfits_of c.result-2-1.given) ∷ [])) w32
     (bare one) tt
 
-pub overflow_add-result : goal.overflow_add-result
-overflow_add-result c = omega (arith, c.requires.1)
-
-pub bounds-t-n-2 : goal.bounds-t-n-2
-bounds-t-n-2 c = omega (arith, c.requires.2)
-
 pub overflow_cast-result-3 : goal.overflow_cast-result-3
 overflow_cast-result-3 c = fit (env (lower c ∷ [])) w32 (var 0) tt
-
-pub overflow_add-result-2 : goal.overflow_add-result-2
-overflow_add-result-2 c = omega (arith, c.requires.2)
-
-pub offset_bounds-s-j-2 : goal.offset_bounds-s-j-2
-offset_bounds-s-j-2 c = omega (arith, c.requires.2)
-
-pub bounds-s-j-2 : goal.bounds-s-j-2
-bounds-s-j-2 c = omega (arith, c.requires.2)
 
 pub overflow_cast-result-4 : goal.overflow_cast-result-4
 overflow_cast-result-4 c = fit (known c) w32 (var 3) tt

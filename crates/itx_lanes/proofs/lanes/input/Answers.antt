@@ -13,7 +13,6 @@ use Rattle.itx_halving.specs.Line.{line}
 use Rattle.itx_halving.proofs.Bounds.{odd-multiple}
 use Rattle.itx_lanes.specs.Steps.{lane_list}
 use Rattle.itx_lanes.proofs.AsLine.{lane-at}
-use Rattle.itx_lanes.proofs.Bounds.{most}
 use Rattle.itx_lanes.proofs.lanes.input.Goals.{After-result-1, Start}
 use Rattle.itx_lanes.proofs.lanes.input.Goals as goal
 
@@ -25,27 +24,6 @@ row s = omega (arith, s.requires.0.rows, odd-multiple s.args.k (s.args.k + 1) s.
 
 abbrev known : After-result-1 → ℕ → Known
 known c = env (arg w16 (get_or c.args.s.now (d (goal.at.overflow_cast-result c).Start * 16 + c.args.j) (pos 0)) (sfits_of c.result-1.given) ∷ [])
-
-pub overflow_mul-result : goal.overflow_mul-result
-overflow_mul-result c = omega (arith, most _ _ c.requires.0.some c.requires.0.rows)
-
-pub overflow_add-result : goal.overflow_add-result
-overflow_add-result c = omega (arith, most _ _ c.requires.0.some c.requires.0.rows)
-
-pub overflow_mul-result-2 : goal.overflow_mul-result-2
-overflow_mul-result-2 c = omega (arith, row c)
-
-pub overflow_mul-result-3 : goal.overflow_mul-result-3
-overflow_mul-result-3 c = omega (arith, row c)
-
-pub overflow_add-result-2 : goal.overflow_add-result-2
-overflow_add-result-2 c = omega (arith, row c, c.requires.1)
-
-pub offset_bounds-s-k : goal.offset_bounds-s-k
-offset_bounds-s-k c = omega (arith, row c, c.requires.1)
-
-pub bounds-s-k : goal.bounds-s-k
-bounds-s-k c = omega (arith, row c, c.requires.1)
 
 pub overflow_cast-result : goal.overflow_cast-result
 overflow_cast-result c = fit (known c) w32 (var 0) tt

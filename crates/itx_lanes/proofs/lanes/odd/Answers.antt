@@ -5,7 +5,6 @@ use native.Mathlib.Omega.{arith}
 use mir.Syntax.{w32}
 use Rattle.integers.proofs.Bits.{back}
 use Rattle.itx_lanes.specs.Steps.{terms}
-use Rattle.itx_lanes.proofs.Bounds.{few}
 use Rattle.itx_lanes.proofs.Steps.{terms-none}
 use Rattle.itx_lanes.proofs.lanes.odd.Goals as goal
 
@@ -15,12 +14,6 @@ loop-k-init c = (omega arith, terms-none _ _ _)
 pub one-z-requires : goal.one-z-requires
 one-z-requires c =
     (c.requires.0, omega (arith, c.requires.1, c.loop-k-test.true), c.loop-k.invariant.1)
-
-pub overflow_step-k : goal.overflow_step-k
-overflow_step-k c = omega (arith, few c.requires.0, c.requires.1, c.loop-k-test.true)
-
-pub loop-k-smaller : goal.loop-k-smaller
-loop-k-smaller c = omega (arith, c.loop-k-test.true)
 
 pub loop-k-preserved : goal.loop-k-preserved
 loop-k-preserved c = (omega (arith, c.loop-k-test.true), back w32 _ c.one-z.type_inv ∙ c.one-z.ensures)

@@ -9,7 +9,7 @@ use lib.IntN.{ℤ, pos}
 use mir.Syntax.{w8, w32}
 use Rattle.integers.proofs.Bound.{Within}
 use Rattle.integers.proofs.Expr.{Ex, var, add, mul, loc, bare, Known, small, env, fit, reads}
-use Rattle.itx_lanes.proofs.Bounds.{entry-within, row, few, terms-within}
+use Rattle.itx_lanes.proofs.Bounds.{entry-within, row, terms-within}
 use Rattle.itx_lanes.proofs.Steps.{terms-more}
 use Rattle.itx_lanes.proofs.lanes.one.Goals.{Start}
 use Rattle.itx_lanes.proofs.lanes.one.Goals as goal
@@ -34,32 +34,11 @@ known s =
 abbrev product : Ex
 product = loc w32 (mul (loc w32 (var 1)) (var 2))
 
-pub overflow_mul-result : goal.overflow_mul-result
-overflow_mul-result c = omega (arith, few c.requires.0, c.requires.1)
-
-pub overflow_add-result : goal.overflow_add-result
-overflow_add-result c = omega (arith, few c.requires.0, c.requires.1)
-
-pub overflow_mul-result-2 : goal.overflow_mul-result-2
-overflow_mul-result-2 c = omega (arith, row c.requires.0 c.args.k c.requires.1)
-
 pub overflow_mul-result-3 : goal.overflow_mul-result-3
 overflow_mul-result-3 c = omega (arith, row c.requires.0 c.args.k c.requires.1)
 
-pub overflow_add-result-2 : goal.overflow_add-result-2
-overflow_add-result-2 c = omega (arith, row c.requires.0 c.args.k c.requires.1, c.requires.0.column)
-
-pub bounds-t-k : goal.bounds-t-k
-bounds-t-k c = omega (arith, row c.requires.0 c.args.k c.requires.1, c.requires.0.column)
-
 pub overflow_cast-result : goal.overflow_cast-result
 overflow_cast-result c = fit (known (goal.at.overflow_cast-result c).Start) w32 (var 1) tt
-
-pub offset_bounds-x-k : goal.offset_bounds-x-k
-offset_bounds-x-k c = omega (arith, few c.requires.0, c.requires.1)
-
-pub bounds-x-k : goal.bounds-x-k
-bounds-x-k c = c.requires.1
 
 pub overflow_mul-result-4 : goal.overflow_mul-result-4
 overflow_mul-result-4 c = fit (known (goal.at.overflow_mul-result-4 c).Start) w32 (bare product) tt

@@ -8,9 +8,6 @@ use Rattle.itx_lanes.proofs.AsLine.{kept-none}
 use Rattle.itx_lanes.proofs.Steps.{halves, terms-of, odd-small, moved_more, stepped}
 use Rattle.itx_lanes.proofs.lanes.places.Goals as goal
 
-pub nonzero_div-q : goal.nonzero_div-q
-nonzero_div-q c = omega (arith, c.requires.0.given.lane.level.size)
-
 pub loop-n-init : goal.loop-n-init
 loop-n-init c = (c.requires.1.0, λ s g. record { lane = g.lane; kept = kept-none })
 
@@ -24,19 +21,10 @@ put-requires c =
     let v = c.loop-n.invariant.1 r.block r.given in
     halves v.lane h (odd-small r c.loop-n.n h (back w32 _ c.odd-z.type_inv ∙ c.odd-z.ensures))
 
-pub overflow_step-n : goal.overflow_step-n
-overflow_step-n c = omega arith
-
-pub loop-n-smaller : goal.loop-n-smaller
-loop-n-smaller c = omega arith
-
 pub loop-n-preserved : goal.loop-n-preserved
 loop-n-preserved c =
     let h : c.loop-n.n < c.args.m = omega (arith, c.requires.1.1, c.loop-n-test.true) in
     (omega arith, λ s g. moved_more (c.loop-n.invariant.1 s g) g.picks h (back w32 _ c.odd-z.type_inv ∙ c.odd-z.ensures) c.put.ensures)
-
-pub shape_of-e : goal.shape_of-e
-shape_of-e c = let r = c.requires.0 in (c.loop-n.invariant.1 r.block r.given).kept.long
 
 pub returns : goal.returns
 returns c =

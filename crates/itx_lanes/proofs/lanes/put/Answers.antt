@@ -1,8 +1,7 @@
 -- `itx_lanes::lanes::put` meets its contract: the sum and the difference of the halves. Assumes nothing.
 use mathlib.Core.List.{[], ◌∷◌}
 use Prim.Native.Nat.{ℕ, ◌+◌, ◌*◌}
-use native.Mathlib.Omega.{arith}
-use lib.ListN.{get_or, length-set}
+use lib.ListN.{get_or}
 use lib.IntN.{pos}
 use mir.Syntax.{w32}
 use Rattle.integers.proofs.Expr.{var, add, sub, loc, Known, small, env, fit, reads}
@@ -25,9 +24,6 @@ overflow_add-e c = fit (known (goal.at.overflow_add-e c).Start) w32 (add (var 0)
 -- the difference fits, whichever half is taken from the other: which it is, is the result's business
 pub overflow_sub-e : goal.overflow_sub-e
 overflow_sub-e c = search (fit (known (goal.at.overflow_sub-e c).Start) w32 (sub (var 0) (var 1)) tt, fit (known (goal.at.overflow_sub-e c).Start) w32 (sub (var 1) (var 0)) tt)
-
-pub bounds-e-m : goal.bounds-e-m
-bounds-e-m c = simp length-set (omega (arith, c.requires.place, c.requires.among, c.requires.room))
 
 pub returns : goal.returns
 unfolding crossed

@@ -4,11 +4,11 @@ use Rattle.itx_lanes.proofs.Passes.{passed_none, passed-lane}
 use Rattle.itx_lanes.proofs.levels.rows.Goals as goal
 
 pub loop-j-init : goal.loop-j-init
-loop-j-init g c = let a = c.requires.0 in passed_none (λ i h. record { part = a.part i h; narrow = a.narrow i h })
+loop-j-init g c = let a = c.requires.1.0 in passed_none (λ i h. record { part = a.part i h; narrow = a.narrow i h })
 
 pub loop-j-preserved : goal.loop-j-preserved
 loop-j-preserved g c =
-    passed-lane c.requires.0.level c.loop-j.invariant c.loop-j-test.true c.pick.ensures
+    passed-lane c.requires.1.0.level c.loop-j.invariant c.loop-j-test.true c.pick.ensures
     (then c.places.ensures
     (then c.places-in-loop-j.ensures
     (then c.places-in-loop-j-2.ensures
