@@ -1,9 +1,9 @@
 -- `itxb1_blocks::tail::Tail::line` meets its contract: place after place, four a turn. Assumes nothing.
 use mathlib.Core.List.{List}
-use mathlib.Core.Path.{◌≡◌, ap, ◌∙◌}
+use mathlib.Core.Path.{◌≡◌, ◌∙◌}
 use Prim.Native.Nat.{ℕ, ◌+◌, ◌*◌}
 use native.Mathlib.Omega.{arith}
-use lib.ListN.{length, set, length-set}
+use lib.ListN.{set, length-set}
 use lib.IntN.{ℤ}
 use mir.Syntax.{w16}
 use Rattle.integers.proofs.Bits.{back}
