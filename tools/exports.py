@@ -17,7 +17,7 @@ from pathlib import Path
 ROOT = Path(__file__).resolve().parent.parent
 CAPI, BOUNDARY = (sorted(str(p.relative_to(ROOT)) for p in (ROOT / "crates" / name / "src").glob("*.rt")) for name in ("capi", "boundary"))
 HEADER, RAW, LIB = "include/tashvelun.h", "rust/src/raw.rs", "rust/src/lib.rs"
-ANSWERS, TOLD = "crates/evc/specs/Answers.antt", "crates/boundary/specs/Told.antt"
+ANSWERS = "crates/evc/specs/Answers.antt"
 C_TYPES = {f"{u}int{n}_t": f"{u or 'i'}{n}" for u in ("", "u") for n in (8, 16, 32, 64)} | {"size_t": "usize"}
 TYPES = {t: t for t in C_TYPES.values()}
 
@@ -203,18 +203,15 @@ def read_lib(path, text):
 
 def read_answers(path, text):
     refusals = numbers(path, text, r"^number (?P<name>\w+) = (?P<number>\d+)$")
-    done = numbers(path, text, r"^answer_number answer\.(?P<name>Done) = (?P<number>\d+)$")
-    return {"refusal": refusals, "answer": refusals | {"accepted": p for p in done.values()}}
-
-
-def read_told(path, text):
-    return {"component": numbers(path, text, r"^component_number «?(?P<name>\w+)»? = (?P<number>\d+)$")}
+    done = numbers(path, text, r"^answer_number \(Ok (?P<name>done)\) = (?P<number>\d+)$")
+    components = numbers(path, text, r"^component_number «?(?P<name>\w+)»? = (?P<number>\d+)$")
+    return {"refusal": refusals, "answer": refusals | {"accepted": p for p in done.values()}, "component": components}
 
 
 READERS = dict.fromkeys(CAPI, read_export) | dict.fromkeys(BOUNDARY, read_structs)
-READERS |= {HEADER: read_header, RAW: read_raw, LIB: read_lib, ANSWERS: read_answers, TOLD: read_told}
+READERS |= {HEADER: read_header, RAW: read_raw, LIB: read_lib, ANSWERS: read_answers}
 # which numbers are held against which
-SAME = [("answer", ANSWERS, HEADER), ("answer", ANSWERS, LIB), ("refusal", ANSWERS, LIB), ("component", TOLD, HEADER), ("component", TOLD, LIB)]
+SAME = [("answer", ANSWERS, HEADER), ("answer", ANSWERS, LIB), ("refusal", ANSWERS, LIB), ("component", ANSWERS, HEADER), ("component", ANSWERS, LIB)]
 
 
 # ---- comparing
