@@ -1,7 +1,7 @@
 #!/usr/bin/env python3
 """Holds the exports of the crate `capi` against the C header and the Rust crate: the same names; each parameter's place, name and type; what is
 answered. The structs that come back by value: their fields, in order, with their types. And the numbers of the answers and of the components, in the
-header and in the Rust crate, against the definitions (evc, boundary).
+header and in the Rust crate, against the definitions (evc).
 
     tools/exports.py              `15 exports agree`; or each difference with both texts, and exit status 1
     tools/exports.py --mutants    tries wrong variants of each text, in memory: each must be a difference; exit status 1 where one is none
