@@ -1,6 +1,7 @@
 // A block inside its buffer, and one of a plane at a position that may be negative. Document 01, "Distortion".
 // Differs from the Rust in: where neither position is negative, the block is compared where it stands.
-ghost use Rattle.std.specs.Prelude.{◌≡◌, ◌*◌, ◌≤◌, length, IfSome};
+ghost use Rattle.std.specs.Prelude.{◌≡◌, ◌||◌, ◌*◌, ◌≤◌, length, pos, is_none, IfSome};
+ghost use Rattle.std.specs.Int.Signed.{lt_z};
 ghost use Rattle.plane_tests.specs.Blocks.{cell};
 ghost use Rattle.block_rows.specs.Totals.{RowsTotalled, BlocksTotalled, value_at};
 ghost use Rattle.block_rows.specs.Edges.{AtEdges, Stands, edge_cell, row_at_edge};
@@ -27,7 +28,8 @@ pub struct EdgePair<'a, A> {
 impl<'a, A> EdgePair<'a, A> {
     // The same blocks where they stand, if neither position is negative.
     pub fn standing(&self) -> Option<BlockPair<'a, A>>
-        ensures { IfSome result (λ p. Stands p.w p.h p.a.now p.a_at p.a_stride (cell 0 p.b.now p.b_at p.b_stride) self.now.w self.now.h self.now.org.now self.now.at self.now.stride (edge_cell self.now.reference.now self.now.ref_stride self.now.mv_x self.now.mv_y)) }
+        ensures none { is_none result ≡ lt_z self.now.mv_x (pos 0) || lt_z self.now.mv_y (pos 0) }
+        ensures some { IfSome result (λ p. Stands p.w p.h p.a.now p.a_at p.a_stride (cell 0 p.b.now p.b_at p.b_stride) self.now.w self.now.h self.now.org.now self.now.at self.now.stride (edge_cell self.now.reference.now self.now.ref_stride self.now.mv_x self.now.mv_y)) }
     {
         if negative(self.mv_x, self.mv_y) {
             return None;

@@ -33,10 +33,10 @@ invariant_of-result g c =
       };
     }
 
-pub returns : goal.returns
-returns g c =
+pub returns-clause-some : goal.returns-clause-some
+returns-clause-some g c =
     let s = c.args.self.now in
-    let b = (goal.at.returns g c).Else-negative in
+    let b = (goal.at.returns-clause-some g c).Else-negative in
     let e = stands s.ref_stride (x-fits g b) (y-fits g b) c.row_start-first.ensures in
     let k = plain-same s.ref_stride (plain g b) e s.reference.now in
     record { width = refl; height = refl; values = refl; start = refl; stride = refl; reads = k.at }
