@@ -73,7 +73,8 @@ impl Compare<u16> for Marks {
     }
 }
 
-// The OR of all samples of two blocks.
+// The OR of all samples of two blocks. It is inlined: called, it would read the pair from memory, which a block of 4 by 4 pays for.
+#[inline(always)]
 pub fn any_block(pair: &BlockPair<u16>) -> u16
     ensures { result ≡ blocks_marks pair.now.w pair.now.h pair.now.a.now pair.now.a_at pair.now.a_stride pair.now.b.now pair.now.b_at pair.now.b_stride }
 {
