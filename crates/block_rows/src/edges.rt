@@ -14,7 +14,7 @@ fn edge(p: i16, i: u16) -> usize
     ensures { result ≡ plane.edge (p +ℤ pos i) }
 {
     let at = (p as i32) + (i as i32);
-    if at < 0 { 0 } else { at as usize }
+    at.max(0) as usize
 }
 
 // Where row j of the block at (x, y) starts: a negative row reads as row 0, and a negative column as column 0.

@@ -72,7 +72,7 @@ pub fn bad_plane(n: usize, width: usize, height: usize, stride: usize) -> bool
 fn beyond(x: usize, w: usize, side: usize) -> bool
     ensures { result ≡ ltb side (x + w) }
 {
-    if side < w { true } else { side - w < x }
+    side < w || side - w < x
 }
 
 // The same from a place that may be negative: both are counted from the lowest i16 on.
