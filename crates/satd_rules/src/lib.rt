@@ -2,7 +2,7 @@
 // 64 bits hold the sum of any sizes, so that every call has its answer.
 #![tactic(auto)]
 
-ghost use Rattle.std.specs.Prelude.{◌≡◌, ◌+◌, ◌/◌, ◌≤◌};
+ghost use Rattle.std.specs.Prelude.{◌≡◌, ◌⊎◌, ◌+◌, ◌/◌, ◌^◌, ◌<◌, ◌≤◌};
 ghost use Rattle.evc.specs.Tiles as of;
 
 // Both sides are multiples of n.
@@ -27,9 +27,11 @@ pub fn side(w: usize, h: usize) -> usize
     2
 }
 
-// The number of a tile of N by N: a quarter of the DC's size and the other sizes, added, and rounded by the side.
+// The number of a tile of N by N: a quarter of the DC's size and the other sizes, added, and rounded by the side. Of tiles of 8 and of 4 it fits 32 bits,
+// whatever the sizes.
 pub fn number<const N: usize>(others: u32, dc: u32) -> u64
-    ensures { result ≡ of.rounded N (others + dc / 4) }
+    ensures rounded { result ≡ of.rounded N (others + dc / 4) }
+    ensures fits { (N ≡ 8) ⊎ (N ≡ 4) → result < 2 ^ 32 }
 {
     let sum = (others as u64) + ((dc / 4) as u64);
     match N {

@@ -4,7 +4,7 @@ ghost use Rattle.std.specs.Prelude.{◌≡◌, [], ◌∷◌, ◌<◌, ◌≤◌
 ghost use Rattle.std.proofs.Common.{lit≤};
 ghost use Rattle.satd_tiles.specs.Passes.{place, RowWithin, puts, whole_line};
 
-// A line of N numbers leaves its coefficients in column j of a block. Tiles have sides of 1 to 8, so that all sums of differences of 16 bits fit 32.
+// A line of N numbers leaves its coefficients in column j of a block. Tiles have sides of 2 to 8, so that all sums of differences of 16 bits fit 32.
 // Each row is named by a literal: of a loop over the rows compilers make scalar code.
 pub(crate) trait Line<const N: usize> {
     fn put(out: &mut [[i32; N]; N], j: usize, x: [i32; N])
@@ -12,7 +12,7 @@ pub(crate) trait Line<const N: usize> {
         requires within { RowWithin 262144 x }
         ensures { out.new ≡ puts (place (whole_line N x.entry)) j out.old N };
 
-    ghost sides: { (1 ≤ N) × (N ≤ 8) };
+    ghost sides: { (2 ≤ N) × (N ≤ 8) };
 }
 
 pub(crate) struct Butterflies;

@@ -1,5 +1,5 @@
 -- `satd_tiles::had::number` meets its contract: what the passes leave are the tile's coefficients (proofs/Tiles.antt). Assumes nothing.
-use Rattle.std.proofs.Common.{◌≡◌, ◌+◌, ◌-◌, ◌/◌, arith, sym, ap, ◌∙◌, subst, nat_abs}
+use Rattle.std.proofs.Common.{◌≡◌, ◌<◌, ◌+◌, ◌-◌, ◌/◌, arith, sym, ap, ◌∙◌, subst, nat_abs}
 use mir.Syntax.{w16, w32}
 use Rattle.integers.proofs.Bits.{back}
 use Rattle.evc.specs.Tiles.{tile_number, tile_sum, rounded}
@@ -17,7 +17,9 @@ row_pass-m-requires g c =
 
 pub at-requires : goal.at-requires
 at-requires g c =
-    let k = g.met.L.Line.sides in (block-small k.1, (line-small k.1, (k.0, k.0)))
+    let k = g.met.L.Line.sides in
+    let inside : 1 < g.row.N = k.0 in
+    (block-small k.1, (line-small k.1, (omega (arith, inside), omega (arith, inside))))
 
 -- the tile, by what the calls gave
 tile : (g : Over) (c : After-abs_i32-dc g) → ByPasses g.row.N c.args.diff c.row_pass-m.result c.column_pass-c.result c.sum-all.result c.abs_i32-dc.result
@@ -29,14 +31,14 @@ tile g c = record {
 }
 
 pub overflow_sub-all : goal.overflow_sub-all
-overflow_sub-all g c = (shares g.met.L.Line.sides.0 (tile g c)).1
+overflow_sub-all g c = (shares (omega (arith, g.met.L.Line.sides.0)) (tile g c)).1
 
 -- the number, by the tile's sum
 is : (g : Over) (c : After-number g) → c.number.result ≡ rounded g.row.N (tile_sum g.row.N (entry c.args.diff))
 is g c =
-    let k = shares g.met.L.Line.sides.0 (tile g (goal.at.returns g c).After-abs_i32-dc) in
+    let k = shares (omega (arith, g.met.L.Line.sides.0)) (tile g (goal.at.returns g c).After-abs_i32-dc) in
     let e : c.sum-all.result - c.abs_i32-dc.result + c.abs_i32-dc.result / 4 ≡ tile_sum g.row.N (entry c.args.diff) = omega (arith, k) in
-    c.number.ensures ∙ ap (rounded g.row.N) e
+    c.number.ensures.rounded ∙ ap (rounded g.row.N) e
 
 pub returns : goal.returns
 unfolding tile_number
