@@ -1,5 +1,6 @@
 -- `sub_block::reported::evc_itdq_job_reported` meets its contract. Assumes nothing.
 use native.Mathlib.Omega.{arith}
+use borrow.Author.Rules.{rules}
 use mathlib.Core.Path.{sym, ap, ◌∙◌}
 use Rattle.std.proofs.lemmas.Result.{err_from_is_err_and}
 use Rattle.evc.specs.Answers.{report_number}
@@ -19,7 +20,7 @@ returns-in_err-job_report-clause-exit c =
     sym (refused-unchanged c.args.coef.now c.args.job (λ z. omega (arith, e, number-some c.in_err-job_report.field-0.0.refusal)))
 
 pub component-requires : goal.component-requires
-component-requires c = (job-report-none _ _).0 (sym c.in_ok-job_report.ensures)
+component-requires c = search (rules, (job-report-none _ _).0 (sym c.in_ok-job_report.ensures))
 
 pub returns-clause-answer : goal.returns-clause-answer
 returns-clause-answer c = sym ((job-report-none _ _).0 (sym c.in_ok-job_report.ensures))
