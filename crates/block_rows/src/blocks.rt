@@ -69,11 +69,11 @@ impl<'a, A> BlockPair<'a, A> {
     }
 }
 
-// The sides come as literals: so it is made anew for each of them.
+// The first h rows of two blocks. The sides come as literals: so it is made anew for each of them.
 #[inline(always)]
 fn rows<A, C: Compare<A>>(compare: C, pair: &BlockPair<A>, w: usize, h: usize) -> Totals
     requires width { w ≡ pair.now.w }
-    requires height { h ≡ pair.now.h }
+    requires height { h ≤ pair.now.h }
     ensures { BlocksTotalled (64 * (64 * C.most)) (C.adds compare) (C.marks compare) w h (cell C.none pair.now.a.now pair.now.a_at pair.now.a_stride) (cell 0 pair.now.b.now pair.now.b_at pair.now.b_stride) result.sum result.any }
 {
     let mut sum: u64 = 0;
@@ -102,6 +102,7 @@ pub fn compare_blocks<A, C: Compare<A>>(compare: C, pair: &BlockPair<A>) -> Tota
         8 => rows(compare, pair, 8, h),
         4 => rows(compare, pair, 4, h),
         2 => rows(compare, pair, 2, h),
+        1 => rows(compare, pair, 1, h),
         w => rows(compare, pair, w, h),
     }
 }
