@@ -9,6 +9,7 @@ ghost use Rattle.satd.specs.Sides.{Side};
 use crate::tiles::{Had, Tile};
 
 // The numbers of a row of tiles, added.
+#[inline(always)]
 fn across<const N: usize, T: Tile<N>>(
     a: &[u16],
     a_at: usize,
@@ -29,6 +30,7 @@ fn across<const N: usize, T: Tile<N>>(
 }
 
 // The numbers of all tiles, added row by row.
+#[inline(always)]
 fn down<const N: usize, T: Tile<N>>(
     a: &[u16],
     a_at: usize,
@@ -48,6 +50,25 @@ fn down<const N: usize, T: Tile<N>>(
     sum
 }
 
+// The same. Where a row has one tile, the width is the side's own number: compilers then add the tile without the loop over a row's tiles, which costs
+// more than the tile.
+fn sized<const N: usize, T: Tile<N>>(
+    a: &[u16],
+    a_at: usize,
+    a_stride: usize,
+    b: &[u16],
+    w: usize,
+    h: usize,
+) -> u64
+    requires { Tested w h a.now a_at a_stride b.now 0 w }
+    ensures { result ≡ satd_total N w h (apart_from a.now a_at a_stride b.now 0 w) }
+{
+    if w == N {
+        return down::<N, T>(a, a_at, a_stride, b, N, h);
+    }
+    down::<N, T>(a, a_at, a_stride, b, w, h)
+}
+
 // The same, of the side that the tiles have.
 pub(crate) fn total(
     side: usize,
@@ -63,8 +84,8 @@ pub(crate) fn total(
     ensures { result ≡ satd_total side w h (apart_from a.now a_at a_stride b.now 0 w) }
 {
     match side {
-        8 => down::<8, Had>(a, a_at, a_stride, b, w, h),
-        4 => down::<4, Had>(a, a_at, a_stride, b, w, h),
-        _ => down::<2, Had>(a, a_at, a_stride, b, w, h),
+        8 => sized::<8, Had>(a, a_at, a_stride, b, w, h),
+        4 => sized::<4, Had>(a, a_at, a_stride, b, w, h),
+        _ => sized::<2, Had>(a, a_at, a_stride, b, w, h),
     }
 }

@@ -15,13 +15,13 @@ last (inr (inl e)) p q = absurd (q e)
 last (inr (inr e)) p q = e
 
 pub returns-in-8 : goal.returns-in-8
-returns-in-8 c = total_at _ 8 _ _ _ c.in-8.is c.down.ensures
+returns-in-8 c = total_at _ 8 _ _ _ c.in-8.is c.sized.ensures
 
 pub returns-in-4 : goal.returns-in-4
-returns-in-4 c = total_at _ 4 _ _ _ c.in-4.is c.down-in-4.ensures
+returns-in-4 c = total_at _ 4 _ _ _ c.in-4.is c.sized-in-4.ensures
 
 pub returns-in_default : goal.returns-in_default
 returns-in_default c =
     let a = c.args in
     total_at a.side 2 a.w a.h (apart_from a.a.now a.a_at a.a_stride a.b.now 0 a.w)
-    (last c.requires.side (λ e. omega arith) (λ e. omega arith)) c.down-in_default.ensures
+    (last c.requires.side (λ e. omega arith) (λ e. omega arith)) c.sized-in_default.ensures
