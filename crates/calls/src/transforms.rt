@@ -5,7 +5,7 @@ use crate::buffer::Buffers;
 use crate::fault::Malformed;
 use crate::read::Reader;
 use crate::report::Broken;
-use evc::{Job, Part, Report, SubBlock};
+use evc::{Job, Report, SubBlock};
 
 pub(crate) fn scale(r: &mut Reader) -> Result<Answer, Malformed> {
     let qp = r.number()?;
@@ -44,7 +44,7 @@ pub(crate) fn itxb1(r: &mut Reader, b: &mut Buffers) -> Result<Answer, Malformed
     Ok(answer::done(itx::itxb1(src, dst, log2_size, log2_line, shift)))
 }
 
-// What a job takes.
+// What a job takes. It is made by the function that promises which number goes where.
 fn job_at(r: &mut Reader, b: &mut Buffers) -> Result<Job, Malformed> {
     let [start, log2_w, log2_h]: [usize; 3] = r.numbers()?;
     let qp = r.number()?;
@@ -52,15 +52,7 @@ fn job_at(r: &mut Reader, b: &mut Buffers) -> Result<Job, Malformed> {
     let [dq_shift, it_shift]: [u8; 2] = r.numbers()?;
     r.buffer(&mut b.shorts)?;
     r.end()?;
-    Ok(Job {
-        start,
-        log2_w,
-        log2_h,
-        qp,
-        offset,
-        dq_shift,
-        it_shift,
-    })
+    Ok(evc::job_of(start, log2_w, log2_h, qp, offset, dq_shift, it_shift))
 }
 
 pub(crate) fn job(r: &mut Reader, b: &mut Buffers) -> Result<Answer, Malformed> {
@@ -86,7 +78,7 @@ pub(crate) fn job_reported(r: &mut Reader, b: &mut Buffers) -> Result<Answer, Ma
     Ok(reported(a, job.log2_w, job.dq_shift))
 }
 
-// What a sub-block takes.
+// What a sub-block takes, made by the function that makes C's.
 fn sub_block_at(r: &mut Reader, b: &mut Buffers) -> Result<SubBlock, Malformed> {
     let [log2_w, log2_h]: [usize; 2] = r.numbers()?;
     let offset = r.number()?;
@@ -96,24 +88,22 @@ fn sub_block_at(r: &mut Reader, b: &mut Buffers) -> Result<SubBlock, Malformed> 
     let [qp_y, qp_u, qp_v]: [u8; 3] = r.numbers()?;
     r.buffer(&mut b.shorts)?;
     r.end()?;
-    Ok(SubBlock {
+    Ok(boundary::sub_block(
         log2_w,
         log2_h,
         offset,
         dq_shift,
         it_shift,
-        y: part(flag_y, start_y, qp_y),
-        u: part(flag_u, start_u, qp_u),
-        v: part(flag_v, start_v, qp_v),
-    })
-}
-
-fn part(is_flagged: bool, start: usize, qp: u8) -> Option<Part> {
-    if is_flagged {
-        Some(Part { start, qp })
-    } else {
-        None
-    }
+        u8::from(flag_y),
+        u8::from(flag_u),
+        u8::from(flag_v),
+        start_y,
+        start_u,
+        start_v,
+        qp_y,
+        qp_u,
+        qp_v,
+    ))
 }
 
 pub(crate) fn sub_block(r: &mut Reader, b: &mut Buffers) -> Result<Answer, Malformed> {
