@@ -37,6 +37,20 @@ impl Write for Room {
         Ok(n)
     }
 
+    // The library's own would try again, without an end, where the output has tried and given up: its last error may be that it was interrupted.
+    fn write_all(&mut self, buf: &[u8]) -> io::Result<()> {
+        let mut rest = buf;
+        // Each turn takes a byte at least.
+        for _ in 0..buf.len() {
+            if rest.is_empty() {
+                break;
+            }
+            let n = self.write(rest)?;
+            rest = &rest[n..];
+        }
+        Ok(())
+    }
+
     fn flush(&mut self) -> io::Result<()> {
         self.output.write_all(&self.bytes[..self.taken])?;
         self.taken = 0;
