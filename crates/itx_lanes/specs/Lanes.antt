@@ -1,4 +1,4 @@
--- The sums of 16 lines side by side, cited by the contracts of src/sums.rt. A block has 64 rows of 16 lanes, a line in each lane. A size N
+-- The sums of 16 lines side by side, cited by the contracts of src/levels.rt. A block has 64 rows of 16 lanes, a line in each lane. A size N
 -- has its input k in row k·(64/N), so that every size is a level of the one 64 by 64 table. Document 01, "The two stages". Assumes nothing.
 use Rattle.std.specs.Prelude.{◌≡◌, ◌⊎◌, List, ℕ, ◌+◌, ◌*◌, ◌/◌, ◌%◌, get_or, ℤ, pos}
 use Rattle.evc.specs.Table.{tm64}

@@ -1,4 +1,4 @@
--- What bi-prediction values and samples add up to. Cited by the contracts of src/blocks.rt and src/edges.rt. Assumes nothing.
+-- What bi-prediction values and samples add up to. Cited by the contracts of src/blocks.rt and src/near.rt. Assumes nothing.
 use Rattle.std.specs.Prelude.{◌≡◌, ℕ, ◌^◌, ◌<◌, ℤ, pos, ◌-ℤ◌, bit_or, nat_abs}
 use Rattle.integers.specs.Sum.{sum_n}
 use Rattle.integers.specs.Or.{or_n}

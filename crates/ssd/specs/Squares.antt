@@ -1,4 +1,4 @@
--- What SSD adds up: squared differences. Cited by the contracts of src/rows.rt, src/blocks.rt and src/edges.rt. Assumes nothing.
+-- What SSD adds up: squared differences. Cited by the contracts of src/rows.rt and src/edges.rt. Assumes nothing.
 use Rattle.std.specs.Prelude.{ℕ, ◌*◌, ◌-◌, ◌/◌, ◌%◌, ◌^◌}
 use Rattle.block_rows.specs.Totals.{apart}
 
